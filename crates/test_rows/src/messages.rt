@@ -27,25 +27,6 @@ use crate::messages::types::try_type;
 use crate::rows::{Columns, Report, RowError, octets_of};
 use std::alloc::Global;
 
-/// What a run tries of a test vector of this origin.
-fn trial_of(origin: &str) -> Trial {
-    match origin {
-        "shown" | "large, shown" => Trial::Shown,
-        "large" => Trial::Large,
-        "once" => Trial::Once,
-        _ => Trial::Whole,
-    }
-}
-
-/// The octets that are to be written, or the name of the error of writing them.
-fn written_of(alloc: Global, column: &str) -> Result<(Vec<u8>, &str), RowError> {
-    match octets_of(alloc, column) {
-        Ok(octets) => Ok((octets, "")),
-        Err(RowError::NoDigits) => Ok((Vec::new(alloc), column)),
-        Err(error) => Err(error),
-    }
-}
-
 /// Appends the findings of a test vector of this origin. Returns whether they are as they should be: of a rejection, whether its name
 /// is in the origin's place, alone or as the name of the error that it passes on.
 fn push_findings(text: &mut String, origin: &str, attempt: Attempt) -> Result<bool, RowError> {
@@ -74,16 +55,26 @@ pub fn report_of(alloc: Global, table: &str, mut columns: Columns<'_>) -> Result
     let digits = columns.text()?;
     let (digits, trailing) = digits.split_once('=').unwrap_or((digits, digits));
     let octets = octets_of(alloc, digits)?;
-    let (written, unwritten) = written_of(alloc, trailing)?;
+    let (written, unwritten) = match octets_of(alloc, trailing) {
+        Ok(octets) => (octets, ""),
+        Err(RowError::NoDigits) => (Vec::new(alloc), trailing),
+        Err(error) => return Err(error),
+    };
     let mut text = format!(in alloc; "{origin} {name} {} octets:", octets.len())?;
+    let trial = match origin {
+        "shown" | "large, shown" => Trial::Shown,
+        "large" => Trial::Large,
+        "once" => Trial::Once,
+        _ => Trial::Whole,
+    };
     let row = Row {
         alloc,
-        trial: trial_of(origin),
+        trial,
         name,
         octets: &octets,
         written: &written,
         unwritten,
-        text: columns.text_if_any(),
+        text: columns.text().unwrap_or(""),
     };
     let attempt = match table {
         "types" => try_type(&row),

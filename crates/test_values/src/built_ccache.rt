@@ -11,7 +11,7 @@ use krb_files::ccache::{
     push_credential, write,
 };
 use krb_files::fields::{PrincipalParts, TypedOctets};
-use std::alloc::{AllocError, Global};
+use std::alloc::Global;
 use std::test::Fail;
 
 /// Version 4 with three fields of a header, a credential with a value in each field, and a configuration entry.
@@ -75,16 +75,6 @@ fn principal<'a>(
     }
 }
 
-/// The times of a configuration entry.
-fn no_times() -> Times {
-    Times {
-        authtime: 0,
-        starttime: 0,
-        endtime: 0,
-        renew_till: 0,
-    }
-}
-
 /// A credential of as little as there can be.
 fn least<'a>() -> NewCredential<'a> {
     NewCredential {
@@ -92,7 +82,12 @@ fn least<'a>() -> NewCredential<'a> {
         server: principal(0, NONE, &[]),
         etype: 0,
         key: NONE,
-        times: no_times(),
+        times: Times {
+            authtime: 0,
+            starttime: 0,
+            endtime: 0,
+            renew_till: 0,
+        },
         is_skey: 0,
         flags: 0,
         addresses: &[],
@@ -178,41 +173,12 @@ fn push_config(
     push_credential(alloc, out, version, &entry)
 }
 
-/// Whether these are the octets of the text in hexadecimal.
-fn is_hex(alloc: Global, octets: &[u8], text: &str) -> Result<bool, AllocError> {
-    Ok(hex::encode(alloc, octets)?.as_str() == text)
-}
-
 /// A cache with both credentials.
 fn with_both(alloc: Global, cache: &NewCcache<'_>) -> Result<Vec<u8>, CcacheWriteError> {
     let mut octets = write(alloc, cache)?;
     push_full(alloc, &mut octets, cache.version)?;
     push_config(alloc, &mut octets, cache.version)?;
     Ok(octets)
-}
-
-#[test]
-fn version_four(rt: HostRuntime) -> Result<(), Fail> {
-    let header = [
-        TypedOctets::new(1, &[0xff, 0xff, 0xff, 0xfe, 0, 1, 0xe2, 0x40]),
-        TypedOctets::new(0xfe01, NONE),
-        TypedOctets::new(2, b"abc"),
-    ];
-    let cache = NewCcache {
-        version: CcacheVersion::Four,
-        header: &header,
-        principal: alice(),
-        credentials: &[],
-    };
-    assert!(rt; is_hex(rt.alloc(), &with_both(rt.alloc(), &cache)?, FOUR)?);
-    Ok(())
-}
-
-#[test]
-fn version_three(rt: HostRuntime) -> Result<(), Fail> {
-    let octets = with_both(rt.alloc(), &head(CcacheVersion::Three, alice()))?;
-    assert!(rt; is_hex(rt.alloc(), &octets, THREE)?);
-    Ok(())
 }
 
 /// A cache without a header and with this default principal, empty.
@@ -225,20 +191,32 @@ fn head<'a>(version: CcacheVersion, principal: CcachePrincipalParts<'a>) -> NewC
     }
 }
 
-/// A cache in version 3 with a credential of as little as there can be.
-fn with_least(alloc: Global) -> Result<Vec<u8>, CcacheWriteError> {
-    let nobody = principal(0, NONE, &[]);
-    let mut octets = write(alloc, &head(CcacheVersion::Three, nobody))?;
-    push_credential(alloc, &mut octets, CcacheVersion::Three, &least())?;
-    Ok(octets)
+#[test]
+fn versions(rt: HostRuntime) -> Result<(), Fail> {
+    let alloc = rt.alloc();
+    let header = [
+        TypedOctets::new(1, &[0xff, 0xff, 0xff, 0xfe, 0, 1, 0xe2, 0x40]),
+        TypedOctets::new(0xfe01, NONE),
+        TypedOctets::new(2, b"abc"),
+    ];
+    let cache = NewCcache {
+        header: &header,
+        ..head(CcacheVersion::Four, alice())
+    };
+    assert!(rt; hex::encode(alloc, with_both(alloc, &cache)?)?.as_str() == FOUR);
+    let octets = with_both(alloc, &head(CcacheVersion::Three, alice()))?;
+    assert!(rt; hex::encode(alloc, octets)?.as_str() == THREE);
+    Ok(())
 }
 
 #[test]
 fn nothing_and_least(rt: HostRuntime) -> Result<(), Fail> {
     let alloc = rt.alloc();
     let octets = write(alloc, &head(CcacheVersion::Four, principal(0, NONE, &[])))?;
-    assert!(rt; is_hex(alloc, &octets, NOTHING)?);
-    assert!(rt; is_hex(alloc, &with_least(alloc)?, LEAST)?);
+    assert!(rt; hex::encode(alloc, octets)?.as_str() == NOTHING);
+    let mut octets = write(alloc, &head(CcacheVersion::Three, principal(0, NONE, &[])))?;
+    push_credential(alloc, &mut octets, CcacheVersion::Three, &least())?;
+    assert!(rt; hex::encode(alloc, octets)?.as_str() == LEAST);
     Ok(())
 }
 
@@ -281,20 +259,6 @@ pub(crate) fn repeated(
     Ok(octets)
 }
 
-/// A cache of as many such credentials, of `write`.
-fn of_many(
-    alloc: Global,
-    credential: NewCredential<'_>,
-    count: usize,
-) -> Result<Vec<u8>, CcacheWriteError> {
-    let credentials = Vec::from_elem(alloc, credential, count)?;
-    let cache = NewCcache {
-        credentials: &credentials,
-        ..head(CcacheVersion::Four, principal(1, b"R", &[b"a"]))
-    };
-    write(alloc, &cache)
-}
-
 /// As many such credentials, of `push_credential`.
 fn pushed(
     alloc: Global,
@@ -315,37 +279,31 @@ fn many_credentials(rt: HostRuntime) -> Result<(), Fail> {
     let alloc = rt.alloc();
     let (addresses, data) = ([TypedOctets::new(6, b"7")], [TypedOctets::new(8, b"9")]);
     let credential = small(&addresses, &data, b"t");
-    let expected = repeated(alloc, SMALL_HEAD, SMALL, 1500)?;
-    assert!(rt; of_many(alloc, credential, 1500)? == expected);
+    let credentials = Vec::from_elem(alloc, credential, 1500)?;
+    let cache = NewCcache {
+        credentials: &credentials,
+        ..head(CcacheVersion::Four, principal(1, b"R", &[b"a"]))
+    };
+    assert!(rt; write(alloc, &cache)? == repeated(alloc, SMALL_HEAD, SMALL, 1500)?);
     let expected = repeated(alloc, "", SMALL_IN_THREE, 1500)?;
     assert!(rt; pushed(alloc, CcacheVersion::Three, &credential, 1500)? == expected);
     Ok(())
 }
 
-/// The octets of a small credential with this ticket.
-fn with_ticket(alloc: Global, ticket: &[u8]) -> Result<Vec<u8>, CcacheWriteError> {
-    let (addresses, data) = ([TypedOctets::new(6, b"7")], [TypedOctets::new(8, b"9")]);
-    let credential = small(&addresses, &data, ticket);
-    pushed(alloc, CcacheVersion::Four, &credential, 1)
-}
-
-/// The small credential up to its ticket's length of 32 bits, and then 70,000, so many octets and no second ticket.
-fn expected_with(alloc: Global, ticket: &[u8]) -> Result<Vec<u8>, FromHexError> {
-    let mut expected = hex::decode(alloc, SMALL)?;
-    expected.truncate(86);
-    expected.extend_from_slice(&[0, 1, 0x11, 0x70])?;
-    expected.extend_from_slice(ticket)?;
-    expected.extend_from_slice(&[0, 0, 0, 0])?;
-    Ok(expected)
-}
-
-/// A ticket past 64 KiB.
+/// A ticket past 64 KiB: the small credential up to its ticket's length of 32 bits, and then 70,000, so many octets and no second ticket.
 #[test]
 fn large_ticket(rt: HostRuntime) -> Result<(), Fail> {
     let alloc = rt.alloc();
     let large = Vec::from_elem(alloc, 0xa5, 70_000)?;
-    assert!(rt; SMALL.len() == 190);
-    assert!(rt; with_ticket(alloc, &large)? == expected_with(alloc, &large)?);
+    let mut expected = hex::decode(alloc, SMALL)?;
+    assert!(rt; expected.len() == 95);
+    expected.truncate(86);
+    expected.extend_from_slice(&[0, 1, 0x11, 0x70])?;
+    expected.extend_from_slice(&large)?;
+    expected.extend_from_slice(&[0, 0, 0, 0])?;
+    let (addresses, data) = ([TypedOctets::new(6, b"7")], [TypedOctets::new(8, b"9")]);
+    let credential = small(&addresses, &data, &large);
+    assert!(rt; pushed(alloc, CcacheVersion::Four, &credential, 1)? == expected);
     Ok(())
 }
 
@@ -363,42 +321,26 @@ fn with_header(
     write(alloc, &cache)
 }
 
-/// 05 04, a header of 65,535 octets, a field of tag 1 and 65,531 octets, and a principal of twelve zeros.
-fn expected_header(alloc: Global) -> Result<Vec<u8>, FromHexError> {
+/// What is refused: a header in version 3, and one that is too long by one octet, in the field or as a whole.
+const REFUSALS: [(CcacheVersion, usize, CcacheWriteError); 3] = [
+    (CcacheVersion::Three, 0, CcacheWriteError::HeaderInVersion3),
+    (CcacheVersion::Four, 65_532, CcacheWriteError::TooLong),
+    (CcacheVersion::Four, 65_536, CcacheWriteError::TooLong),
+];
+
+/// A header as long as it can be: 05 04, 65,535 octets, a field of tag 1 and 65,531 octets, and a principal of twelve zeros; and
+/// headers that are refused.
+#[test]
+fn headers(rt: HostRuntime) -> Result<(), Fail> {
+    let alloc = rt.alloc();
     let mut expected = repeated(alloc, "0504ffff0001fffb", "a5", 65_531)?;
     expected.extend_from_slice(&[0; 12])?;
-    Ok(expected)
-}
-
-/// A header as long as it can be.
-#[test]
-fn large_header(rt: HostRuntime) -> Result<(), Fail> {
-    let alloc = rt.alloc();
     let field = Vec::from_elem(alloc, 0xa5, 65_531)?;
-    let octets = with_header(alloc, CcacheVersion::Four, &field)?;
-    assert!(rt; octets == expected_header(alloc)?);
-    Ok(())
-}
-
-/// The refusal of a header of one field with so many octets.
-fn refusal_of(
-    alloc: Global,
-    version: CcacheVersion,
-    size: usize,
-) -> Result<Option<CcacheWriteError>, AllocError> {
-    let field = Vec::from_elem(alloc, 0xa5, size)?;
-    Ok(with_header(alloc, version, &field).err())
-}
-
-/// A header in version 3, and one that is too long by one octet, in the field or as a whole.
-#[test]
-fn refusals(rt: HostRuntime) -> Result<(), Fail> {
-    let alloc = rt.alloc();
-    let refused = refusal_of(alloc, CcacheVersion::Three, 0)?;
-    assert!(rt; refused == Some(CcacheWriteError::HeaderInVersion3));
-    let refused = refusal_of(alloc, CcacheVersion::Four, 65_532)?;
-    assert!(rt; refused == Some(CcacheWriteError::TooLong), "the field");
-    let refused = refusal_of(alloc, CcacheVersion::Four, 65_536)?;
-    assert!(rt; refused == Some(CcacheWriteError::TooLong), "the whole");
+    assert!(rt; with_header(alloc, CcacheVersion::Four, &field)? == expected);
+    for row in &REFUSALS {
+        let field = Vec::from_elem(alloc, 0xa5, row.1)?;
+        let refused = with_header(alloc, row.0, &field).err();
+        assert!(rt; refused.as_ref() == Some(&row.2), "{}", row.1);
+    }
     Ok(())
 }

@@ -43,11 +43,6 @@ fn list_of<T: Drop>(rt: &(impl Abort + AllocGlobal), item: T) -> Asn1SequenceOf<
     Asn1SequenceOf(items)
 }
 
-/// The hour of the last day of 2021.
-fn at(rt: &impl Abort, hour: u8) -> KerberosTime {
-    KerberosTime::new(2021, 12, 31, hour, 0, 0).expect(rt, "a time")
-}
-
 /// The part of `TICKET_PART`.
 fn ticket_part(rt: &(impl Abort + AllocGlobal)) -> EncTicketPart {
     let key = [0, 1, 2, 3, 4, 5, 6, 7, 8, 9, 10, 11, 12, 13, 14, 15];
@@ -64,15 +59,17 @@ fn ticket_part(rt: &(impl Abort + AllocGlobal)) -> EncTicketPart {
         contents: ExplicitContextTag1::from(octets(rt, &[])),
     };
     let flags = BitStringAsn1::with_bytes(octets(rt, &[0; 4]).0);
+    let auth_time = KerberosTime::new(2021, 12, 31, 0, 0, 0).expect(rt, "a time");
+    let endtime = KerberosTime::new(2021, 12, 31, 10, 0, 0).expect(rt, "a time");
     ApplicationTag(EncTicketPartInner {
         flags: ExplicitContextTag0::from(flags),
         key: ExplicitContextTag1::from(key),
         crealm: ExplicitContextTag2::from(text(rt, "EXAMPLE.COM")),
         cname: ExplicitContextTag3::from(client),
         transited: ExplicitContextTag4::from(transited),
-        auth_time: ExplicitContextTag5::from(at(rt, 0)),
+        auth_time: ExplicitContextTag5::from(auth_time),
         starttime: Optional(None),
-        endtime: ExplicitContextTag7::from(at(rt, 10)),
+        endtime: ExplicitContextTag7::from(endtime),
         renew_till: Optional(None),
         caddr: Optional(None),
         authorization_data: Optional(None),
@@ -89,8 +86,9 @@ fn fill(rt: &(impl Abort + AllocGlobal), part: &mut EncTicketPartInner) {
         ad_type: ExplicitContextTag0::from(number(rt, 1)),
         ad_data: ExplicitContextTag1::from(octets(rt, &[0xbe, 0xef])),
     };
+    let starttime = KerberosTime::new(2021, 12, 31, 1, 0, 0).expect(rt, "a time");
     let renew_till = KerberosTime::new(2022, 1, 7, 0, 0, 0).expect(rt, "a time");
-    part.starttime = Optional(Some(ExplicitContextTag6::from(at(rt, 1))));
+    part.starttime = Optional(Some(ExplicitContextTag6::from(starttime)));
     part.renew_till = Optional(Some(ExplicitContextTag8::from(renew_till)));
     part.caddr = Optional(Some(ExplicitContextTag9::from(list_of(rt, address))));
     part.authorization_data = Optional(Some(ExplicitContextTag10::from(list_of(rt, data))));

@@ -209,11 +209,6 @@ const RUNS: [Run; 6] = [
     },
 ];
 
-/// The first `count` of the octets, or all of them.
-fn prefix_of(octets: &[u8], count: usize) -> &[u8] {
-    &octets[..count.min(octets.len())]
-}
-
 /// Whether a run ends as it has to where the call number `failing` of one device fails, or is
 /// interrupted: of the reader (0), of the writer (1) or of that of the errors (2). No call has the
 /// number 0. A call that is interrupted is made again, but for the flush.
@@ -247,11 +242,11 @@ fn is_reported(
     if place == 2 {
         return status == row.status
             && output.taken.as_slice() == row.output
-            && errors.taken.as_slice() == prefix_of(row.errors, before);
+            && errors.taken.as_slice() == row.errors.get(..before).unwrap_or(row.errors);
     }
     let taken = if place == 1 { before } else { 0 };
     status == 1
-        && output.taken.as_slice() == prefix_of(row.output, taken)
+        && output.taken.as_slice() == row.output.get(..taken).unwrap_or(row.output)
         && errors.taken.as_slice() == b"krbtool: io\n".as_slice()
 }
 

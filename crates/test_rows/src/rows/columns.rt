@@ -30,11 +30,6 @@ impl<'a> Columns<'a> {
         Ok(column)
     }
 
-    /// Takes the next column, which may not be there: then it is empty.
-    pub fn text_if_any(&mut self) -> &'a str {
-        self.text().unwrap_or("")
-    }
-
     /// Takes the next column, and returns its octets (`octets_of`).
     pub fn octets(&mut self, alloc: Global) -> Result<Vec<u8>, RowError> {
         octets_of(alloc, self.text()?)
