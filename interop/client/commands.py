@@ -30,6 +30,16 @@ def try_look(realm, run, one_line):
     expect(late == (1, "refused: SKEW: the client's time is 600 s behind (limit 300)\n", ""), "accept ten minutes later: %s" % (late,))
     offer = krb.spnego.make_neg_token_init([krb.spnego.KERBEROS], token)
     expect(run("accept", "--keytab", path, "--time", came, text=base64.b64encode(offer).decode("ascii")) == (0, let_in, ""), "accept of SPNEGO's first message")
+    ntlm = bytes.fromhex("2b06010401823702020a")
+    for mechanisms, inner, start in (
+        ([ntlm, krb.spnego.KERBEROS], b"NTLMSSP\0", "not accepted yet: "),
+        ([krb.spnego.KERBEROS], b"", "not accepted yet: "),
+        ([ntlm], token, "refused: UNKNOWN_MECHANISM: "),
+        ([krb.spnego.KERBEROS], token[:-1], "refused: FRAME: "),
+    ):
+        offer = krb.spnego.make_neg_token_init(mechanisms, inner)
+        told = run("accept", "--keytab", path, "--time", came, text=base64.b64encode(offer).decode("ascii"))
+        expect(told[0] == 1 and told[1].startswith(start) and told[1].count("\n") == 1 and told[2] == "", "accept of an offer: %s" % (told,))
     other = run("accept", "--keytab", path, "--time", came, "--server", "HTTP", text=header)
     expect(other[0] == 1 and other[1].startswith("refused: NOT_US: "), "accept for another server: %s" % (other,))
     for words in (("accept", "--keytab", realm.path("none")), ("accept", "--keytab", path, "--server", "")):

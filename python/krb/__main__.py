@@ -13,6 +13,7 @@ from typing import Callable, Dict, List, Optional
 from krb import __version__, _ccache, _look, capture, web
 from krb._configuration import Configuration
 from krb._context import unparsed
+from krb._facts import printable
 from krb._items import Registry, find_number, name_of
 from krb._names import parsed
 from krb._parts import decode
@@ -116,11 +117,6 @@ def shown(time: Optional[datetime.datetime]) -> str:
 
 def etype_of(number: int) -> str:
     return name_of(Registry.ENCRYPTION_TYPE, number) or "etype %d" % number
-
-
-def printable(text: str) -> str:
-    """A name for a terminal, which obeys control characters."""
-    return "".join(each if " " <= each <= "~" else "\\x%02x" % ord(each) for each in text)
 
 
 def list_keytab(options: argparse.Namespace) -> int:

@@ -7,6 +7,7 @@ import time
 from typing import List, NamedTuple, Optional
 
 from krb import _pages, spnego
+from krb._context import Context
 from krb._facts import printable
 from krb._forms import given_octets
 from krb._library import Refused, Status
@@ -15,6 +16,7 @@ from krb._paths import keytab_path
 from krb._rules import Rule
 from krb._shown import show
 from krb.accept import Acceptor, NotAccepted
+from krb.negotiate import NegotiationRole, Negotiator, NotNegotiated
 
 __all__ = ["Verdict", "add_accept", "add_show", "run_accept", "run_show", "verdicts_of"]
 
@@ -87,20 +89,29 @@ def moment(text: str) -> float:
         raise argparse.ArgumentTypeError("no time: %a" % text) from None
 
 
-def token_of(octets: bytes) -> bytes:
-    """The token of Kerberos: the octets, or the first mechanism's in the first message of SPNEGO (RFC 4178, 4.2.1) where that mechanism is Kerberos."""
+def is_offer(octets: bytes) -> bool:
+    """Whether octets are in the frame of SPNEGO (RFC 2743, 3.1; RFC 4178, 4.2), as the first message of a negotiation is."""
     try:
-        if spnego.token(octets).mechanism != spnego.SPNEGO:
-            return octets
-        offer = spnego.neg_token_init(octets)
+        return spnego.token(octets).mechanism == spnego.SPNEGO
     except Refused as refused:
         if refused.status == Status.MEMORY:
             raise
-        return octets
-    listed: List[bytes] = offer.mechanisms or []
-    if offer.mech_token is None or not listed or listed[0] not in KerberosMechanism.names:
-        return octets
-    return offer.mech_token
+        return False
+
+
+def accepted(acceptor: Acceptor, octets: bytes) -> Optional[Context]:
+    """What an acceptor lets in: the client whose token the octets are, or hold as the first message of a negotiation, which a `Negotiator` takes. None where
+    that offers Kerberos and has no token of it. NotAccepted, NotNegotiated, and what else these raise."""
+    if not is_offer(octets):
+        return acceptor.accept(octets)
+    mechanism = KerberosMechanism(acceptor)
+    try:
+        Negotiator(NegotiationRole.ACCEPTOR, [mechanism]).step(octets)
+    except NotNegotiated as refused:
+        if isinstance(refused.__cause__, NotAccepted):
+            raise refused.__cause__ from None
+        raise
+    return mechanism.context
 
 
 class Verdict(NamedTuple):
@@ -114,9 +125,13 @@ class Verdict(NamedTuple):
 def verdict_of(acceptor: Acceptor, octets: bytes) -> Verdict:
     """What an acceptor says of a token. Refused, and what else `Acceptor.accept` raises: nothing is decided."""
     try:
-        found = acceptor.accept(token_of(octets))
+        found = accepted(acceptor, octets)
     except NotAccepted as refused:
         return Verdict(False, printable("refused: %s" % refused), refused.seen if refused.rule == Rule.SKEW else None)
+    except NotNegotiated as refused:
+        return Verdict(False, printable("refused: %s" % refused))
+    if found is None:
+        return Verdict(False, "not accepted yet: the message has no token of Kerberos, and a service asks for one")
     names = found.client, found.server, found.end_time.strftime(_TIME)
     return Verdict(True, printable("accepted: %s for %s, until %s; no replay cache was asked" % names))
 
