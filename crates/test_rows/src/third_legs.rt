@@ -6,8 +6,8 @@
 
 use crate::rows::{Columns, RowError};
 use picky_krb::accept::{
-    Accepted, Arrival, PacCheck, ReplayCache, Settings, Terms, ThirdLegError, accept_token,
-    check_third_leg, confirm_third_leg, keys_of_keytab,
+    Arrival, Context, PacCheck, ReplayCache, ServiceKey, Settings, Terms, ThirdLegError,
+    accept_token, check_third_leg, confirm_third_leg, keys_of_keytab,
 };
 use picky_krb::der::IntegerAsn1;
 use picky_krb::keytab::KeytabView;
@@ -21,53 +21,65 @@ fn text_of(alloc: Global, answered: Result<(), ThirdLegError>) -> Result<String,
     }
 }
 
-/// The client that the service of a keytab lets in by the token of a row: an AP-REQ without a frame, and with an authenticator of any checksum.
-fn accepted(alloc: Global, columns: &mut Columns<'_>) -> Result<Accepted, RowError> {
-    let keytab = columns.octets(alloc)?;
-    let arrival = Arrival {
-        clock: columns.number::<i64>()?,
-        address: None,
-    };
-    let token = columns.octets(alloc)?;
-    let Ok(view) = KeytabView::new(&keytab) else {
-        return Err(RowError::NoDigits);
-    };
-    let keys = keys_of_keytab(alloc, &view)?;
-    let terms = Terms::new(alloc, 300, None)?;
+/// The context of the client that a service with these keys lets in at this time by a token: an AP-REQ without a frame too, and with an
+/// authenticator of any checksum.
+fn let_in(
+    alloc: Global,
+    keys: &[ServiceKey],
+    clock: i64,
+    token: &[u8],
+) -> Result<Context, RowError> {
     let settings = Settings {
         bindings: None,
         bare_request: true,
         other_checksum: true,
         pac: PacCheck::Checked,
     };
+    let terms = Terms::new(alloc, 300, None)?;
+    let arrival = Arrival {
+        clock,
+        address: None,
+    };
     let mut cache = ReplayCache::new(alloc);
-    match accept_token(
+    let answer = accept_token(
         alloc,
-        &keys,
+        keys,
         &[],
         &terms,
         &arrival,
         &settings,
-        &token,
+        token,
         &mut cache,
-    ) {
-        Ok(context) => Ok(context.accepted),
-        Err(_refusal) => Err(RowError::NoDigits),
+    );
+    drop(cache);
+    drop(arrival);
+    drop(terms);
+    match answer {
+        Ok(context) => Ok(context),
+        Err(refusal) => {
+            drop(refusal);
+            Err(RowError::NoDigits)
+        }
     }
 }
 
 /// What is printed of a row.
 pub(crate) fn answer(alloc: Global, mut columns: Columns<'_>) -> Result<String, RowError> {
-    let name = columns.text()?;
-    let accepted = accepted(alloc, &mut columns)?;
+    let (name, keytab) = (columns.text()?, columns.octets(alloc)?);
+    let (clock, token) = (columns.number::<i64>()?, columns.octets(alloc)?);
     let own_reply = columns.octets(alloc)?;
     let Ok(number) = IntegerAsn1::from_bytes_be_unsigned(alloc, columns.octets(alloc)?) else {
         return Err(RowError::NoNumber);
     };
     let message = columns.octets(alloc)?;
-    let confirmed = confirm_third_leg(alloc, &accepted, &own_reply, &number, &message);
-    let confirm_text = text_of(alloc, confirmed)?;
-    let checked = check_third_leg(alloc, &accepted, &number, &message);
-    let check_text = text_of(alloc, checked)?;
-    Ok(format!(in alloc; "{name}: confirm {confirm_text}; check {check_text}\n")?)
+    let Ok(view) = KeytabView::new(&keytab) else {
+        return Err(RowError::NoDigits);
+    };
+    let keys = keys_of_keytab(alloc, &view)?;
+    let context = let_in(alloc, &keys, clock, &token)?;
+    let confirmed = confirm_third_leg(alloc, &context.accepted, &own_reply, &number, &message);
+    let checked = check_third_leg(alloc, &context.accepted, &number, &message);
+    drop(context);
+    let (confirmed, checked) = (text_of(alloc, confirmed)?, text_of(alloc, checked)?);
+    Ok(format!(in alloc; "{name}: confirm {confirmed}; check {checked}\n")?)
 }
