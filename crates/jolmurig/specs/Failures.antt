@@ -1,5 +1,5 @@
 -- The line and the status of a failure.
-use Rattle.std.specs.Prelude.{◌≡◌, ℕ, ◌+◌, Option, Some, None, List, [], ◌∷◌, ◌++◌, codes}
+use Rattle.std.specs.Prelude.{◌≡◌, ℕ, ◌+◌, Option, Some, None, Err, List, [], ◌∷◌, ◌++◌, codes}
 use Rattle.std.specs.Fmt.{decimal}
 use Rattle.krb_file_tools.specs.declared.convert.error.ConvertError.{ConvertError}
 use Rattle.krb_file_tools.specs.declared.convert.error.ConvertError.TheVariants as rule
@@ -14,8 +14,14 @@ use Rattle.krb_show_any.specs.declared.error.PageError.TheVariants as page
 use Rattle.krb_show_any.specs.Names.{kind_name}
 use Rattle.krb_show_any.specs.declared.kind.Kind.{Kind}
 use Rattle.krb_show_any.specs.declared.kind.Kind.TheVariants as kinds
+use Rattle.krb_show_text.specs.Text.{escaped}
+use Rattle.krb_show_text.specs.declared.escape.Style.TheVariants as style
+use Rattle.jolmurig.specs.Files.{Gives, UnreadFile, unread_reason}
+use Rattle.jolmurig.specs.declared.files.Purpose.{Purpose}
+use Rattle.jolmurig.specs.declared.files.Purpose.TheVariants as purpose
+use Rattle.jolmurig.specs.declared.files.Unread.{Unread}
 use Rattle.jolmurig.specs.declared.failure.Failure.{Failure}
-use Rattle.jolmurig.specs.declared.failure.Failure.TheVariants.{Arguments, Key, KeyFile, KeyInFile, KeytabFile, Keytab, PasswordFile, NotBase64, UnknownKind, NoEntries, Convert, Proxy, Octets, Time, Skew, Server, Realm, Bindings, Refused, Memory, Read, Write}
+use Rattle.jolmurig.specs.declared.failure.Failure.TheVariants.{Arguments, Key, KeyInFile, Keytab, NotBase64, UnknownKind, NoEntries, Convert, Proxy, Octets, Time, Skew, Server, Realm, Bindings, Refused, Memory, Read, Write}
 use Rattle.jolmurig.specs.declared.failure.Failure.TheVariants as failure
 use Rattle.jolmurig.specs.declared.failure.Undecided.{Undecided}
 use Rattle.jolmurig.specs.declared.failure.Undecided.TheVariants as undecided
@@ -41,9 +47,29 @@ breaker (proxy.Pvno k) = kind_name (kind_of_message k)
 breaker (proxy.MsgType k) = kind_name (kind_of_message k)
 breaker rule = codes "proxy"
 
+-- ---- files
+
+-- the option that names a file for a purpose, and a blank; the name of the input stands alone
+abbrev pub option_of : Purpose → List ℕ
+option_of purpose.Input = []
+option_of purpose.Keytab = codes "--keytab "
+option_of purpose.KeyFile = codes "--key-file "
+option_of purpose.PasswordFile = codes "--password-file "
+
+-- the name of a file behind its option; an octet that is not printable ASCII is `\xNN`
+abbrev pub file_text : UnreadFile → List ℕ
+file_text f = option_of f.purpose ++ escaped style.Plain f.name
+
+-- a file is not read, for this reason
+abbrev pub IsUnread : Gives → Purpose → List ℕ → Failure → Type 0
+IsUnread gives purpose name e =
+    (why : Unread) × gives name (Err why) × (e ≡ failure.NoFile (record { purpose = purpose; name = name; why = why }))
+
+-- ---- the parts of the line
+
 -- what nothing is decided of a token for, and why
 abbrev pub undecided_subject : Undecided → List ℕ
-undecided_subject undecided.KeytabFile = codes "--keytab"
+undecided_subject (undecided.NoFile f) = file_text f
 undecided_subject (undecided.Keytab why) = codes "--keytab"
 undecided_subject undecided.Clock = codes "clock"
 undecided_subject undecided.NotBase64 = codes "base64"
@@ -52,7 +78,7 @@ undecided_subject undecided.Read = codes "reading"
 undecided_subject undecided.Write = codes "writing"
 
 abbrev pub undecided_reason : Undecided → List ℕ
-undecided_reason undecided.KeytabFile = codes "the file could not be read"
+undecided_reason (undecided.NoFile f) = unread_reason f.why
 undecided_reason (undecided.Keytab why) = page_reason (page.Keytab why)
 undecided_reason undecided.Clock = codes "the clock could not be read; --time names a time"
 undecided_reason undecided.NotBase64 = codes "the input begins as PEM or as a header of HTTP, and no base64 follows"
@@ -64,11 +90,9 @@ undecided_reason undecided.Write = codes "the output could not be written"
 abbrev pub subject : Failure → List ℕ
 subject Arguments = codes "wrong arguments"
 subject Key = codes "--key"
-subject KeyFile = codes "--key-file"
+subject (failure.NoFile f) = file_text f
 subject KeyInFile = codes "--key-file"
-subject KeytabFile = codes "--keytab"
 subject (Keytab why) = codes "--keytab"
-subject PasswordFile = codes "--password-file"
 subject NotBase64 = codes "base64"
 subject UnknownKind = codes "unknown kind"
 subject NoEntries = codes "list"
@@ -124,11 +148,9 @@ reason Arguments =
     codes "usage: jolmurig show [OPTION].. [FILE], jolmurig check --as TYPE [FILE], jolmurig list [FILE], jolmurig convert kirbi|ccache [FILE], jolmurig proxy request|reply [FILE] or jolmurig accept --keytab FILE [OPTION].. [FILE]; see jolmurig --help"
 reason Key =
     codes "a key is ETYPE:HEX, where ETYPE is 16 to 20 or the name of such an encryption type, and HEX the octets of a key of its length"
-reason KeyFile = codes "the file could not be read"
+reason (failure.NoFile f) = unread_reason f.why
 reason KeyInFile =
     codes "the file holds no key ETYPE:HEX, where ETYPE is 16 to 20 or the name of such an encryption type, and HEX the octets of a key of its length"
-reason KeytabFile = codes "the file could not be read"
-reason PasswordFile = codes "the file could not be read"
 reason (Keytab why) = page_reason (page.Keytab why)
 reason NotBase64 = codes "the input begins as PEM or as a header of HTTP, and no base64 follows"
 reason UnknownKind = codes "the octets begin as no kind that is known; --as TYPE names one"

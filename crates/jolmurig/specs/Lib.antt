@@ -1,3 +1,4 @@
+pub mod Files
 pub mod Failures
 pub mod Keys
 pub mod Passwords

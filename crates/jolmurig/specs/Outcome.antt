@@ -25,7 +25,9 @@ use Rattle.jolmurig.specs.Lists.{IsListed, IsUnlisted}
 use Rattle.jolmurig.specs.Passages.{IsBlocked}
 use Rattle.jolmurig.specs.Passwords.{ArePasswords, HasNoPassword}
 use Rattle.jolmurig_command.specs.Arguments.{asked_by}
-use Rattle.jolmurig.specs.Failures.{line_of, status_of_failure}
+use Rattle.jolmurig.specs.Failures.{IsUnread, line_of, status_of_failure}
+use Rattle.jolmurig.specs.Files.{Gives}
+use Rattle.jolmurig.specs.declared.files.Purpose.TheVariants as purpose
 use Rattle.jolmurig.specs.Keys.{AreKeys, HasNoKeys}
 use Rattle.jolmurig_command.specs.Shows.{Show}
 use Rattle.jolmurig_command.specs.declared.command.Command.{Command}
@@ -80,20 +82,16 @@ IsWrittenRun makes fails before after outcome =
 
 -- ---- the input
 
--- what a file gives, by its name: its octets, or nothing where it cannot be read
-abbrev pub Gives : Type 1
-Gives = List ℕ → Option (List ℕ) → Type 0
-
 -- what is read: what the file gives, where one is named, and else what standard input has left, where that is known
 abbrev pub IsInput : Gives → Option (List ℕ) → Option (List ℕ) → List ℕ → Type 0
-IsInput gives (Some name) left all = gives name (Some all)
+IsInput gives (Some name) left all = gives name (Ok all)
 IsInput gives None None all = Unit {0}
 IsInput gives None (Some left) all = all ≡ left
 
--- a file that is named cannot be read; standard input may fail at any time
-abbrev pub IsUnread : Gives → Option (List ℕ) → Type 0
-IsUnread gives (Some name) = gives name None
-IsUnread gives None = Unit {0}
+-- a file that is named is not read; standard input may fail at any time
+abbrev pub FailsToRead : Gives → Option (List ℕ) → Failure → Type 0
+FailsToRead gives (Some name) e = IsUnread gives purpose.Input name e
+FailsToRead gives None e = e ≡ Read
 
 -- standard input is as it was where a file is named
 abbrev pub IsLeft : Option (List ℕ) → Option (List ℕ) → Option (List ℕ) → Type 0
@@ -106,12 +104,12 @@ AreRead gives file left octets = (all : List ℕ) × IsInput gives file left all
 
 -- nothing is read
 abbrev pub IsNoInput : Gives → Option (List ℕ) → Failure → Type 0
-IsNoInput gives file e = (e ≡ Memory) ⊎ ((e ≡ Read) × IsUnread gives file)
+IsNoInput gives file e = (e ≡ Memory) ⊎ FailsToRead gives file e
 
 -- why there are none
 abbrev pub AreNotRead : Gives → Option (List ℕ) → Option (List ℕ) → Failure → Type 0
 AreNotRead gives file left e =
-    (e ≡ Memory) ⊎ ((e ≡ Read) × IsUnread gives file)
+    (e ≡ Memory) ⊎ FailsToRead gives file e
     ⊎ ((e ≡ NotBase64) × ((all : List ℕ) × IsInput gives file left all × (octets_of all ≡ None)))
 
 -- Where the octets of the input make these, they are written; and the input is as it was where a file is named.
