@@ -16,18 +16,21 @@ use Rattle.krb_show_any.specs.declared.kind.Kind.{Kind}
 use Rattle.krb_show_any.specs.declared.kind.Kind.TheVariants as kinds
 use Rattle.krb_show_text.specs.Text.{escaped}
 use Rattle.krb_show_text.specs.declared.escape.Style.TheVariants as style
+use Rattle.jolmurig.specs.Faults.{fault_text}
 use Rattle.jolmurig.specs.Files.{Gives, UnreadFile, unread_reason}
 use Rattle.jolmurig.specs.declared.files.Purpose.{Purpose}
 use Rattle.jolmurig.specs.declared.files.Purpose.TheVariants as purpose
 use Rattle.jolmurig.specs.declared.files.Unread.{Unread}
 use Rattle.jolmurig.specs.declared.failure.Failure.{Failure}
-use Rattle.jolmurig.specs.declared.failure.Failure.TheVariants.{Arguments, Key, KeyInFile, Keytab, NotBase64, UnknownKind, NoEntries, Convert, Proxy, Octets, Time, Skew, Server, Realm, Bindings, Refused, Memory, Read, Write}
+use Rattle.jolmurig.specs.declared.failure.Failure.TheVariants.{Arguments, NotText, NoType, Key, KeyInFile, Keytab, NotBase64, UnknownKind, NoEntries, Convert, Proxy, Octets, Time, Skew, Server, Realm, Bindings, Refused, Memory, Read, Write}
 use Rattle.jolmurig.specs.declared.failure.Failure.TheVariants as failure
 use Rattle.jolmurig.specs.declared.failure.Undecided.{Undecided}
 use Rattle.jolmurig.specs.declared.failure.Undecided.TheVariants as undecided
 
 abbrev pub status_of_failure : Failure → ℕ
-status_of_failure Arguments = 2
+status_of_failure (Arguments fault) = 2
+status_of_failure NotText = 2
+status_of_failure (NoType name) = 2
 status_of_failure Key = 2
 status_of_failure Time = 2
 status_of_failure Skew = 2
@@ -88,7 +91,9 @@ undecided_reason undecided.Write = codes "the output could not be written"
 
 -- what the failure is of
 abbrev pub subject : Failure → List ℕ
-subject Arguments = codes "wrong arguments"
+subject (Arguments fault) = fault_text fault
+subject NotText = codes "an argument is not UTF-8"
+subject (NoType name) = codes "--as: no type " ++ escaped style.Plain name
 subject Key = codes "--key"
 subject (failure.NoFile f) = file_text f
 subject KeyInFile = codes "--key-file"
@@ -144,8 +149,9 @@ rule_of_proxy other = codes "the octets are no encoding"
 
 -- what happened
 abbrev pub reason : Failure → List ℕ
-reason Arguments =
-    codes "usage: jolmurig show [OPTION].. [FILE], jolmurig check --as TYPE [FILE], jolmurig list [FILE], jolmurig convert kirbi|ccache [FILE], jolmurig proxy request|reply [FILE] or jolmurig accept --keytab FILE [OPTION].. [FILE]; see jolmurig --help"
+reason (Arguments fault) = codes "see jolmurig --help"
+reason NotText = codes "see jolmurig --help"
+reason (NoType name) = codes "see jolmurig --help"
 reason Key =
     codes "a key is ETYPE:HEX, where ETYPE is 16 to 20 or the name of such an encryption type, and HEX the octets of a key of its length"
 reason (failure.NoFile f) = unread_reason f.why
@@ -169,6 +175,13 @@ reason Memory = codes "an allocation failed"
 reason Read = codes "the input could not be read"
 reason Write = codes "the output could not be written"
 
+-- what stands between these two
+abbrev pub mark : Failure → List ℕ
+mark (Arguments fault) = codes "; "
+mark NotText = codes "; "
+mark (NoType name) = codes "; "
+mark e = codes ": "
+
 -- how many octets stand before the error, if that is known
 abbrev pub place : Failure → Option ℕ
 place (Octets kind why found) = found
@@ -181,9 +194,9 @@ abbrev pub place_text : Option ℕ → List ℕ
 place_text None = []
 place_text (Some at) = placed at
 
--- jolmurig: SUBJECT: REASON, and, if it is known, the place
+-- jolmurig: SUBJECT: REASON, and, if it is known, the place; jolmurig: FAULT; REASON
 abbrev pub own_line : Failure → List ℕ
-own_line e = codes "jolmurig: " ++ subject e ++ codes ": " ++ reason e ++ place_text (place e) ++ 10 ∷ []
+own_line e = codes "jolmurig: " ++ subject e ++ mark e ++ reason e ++ place_text (place e) ++ 10 ∷ []
 
 -- that line; none where the output says why
 abbrev pub line_of : Failure → List ℕ

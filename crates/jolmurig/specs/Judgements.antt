@@ -10,6 +10,7 @@ use Rattle.krb_accept_report.specs.Texts.{IsTimeOf}
 use Rattle.krb_accept_report.specs.declared.report.ReportError.{ReportError}
 use Rattle.krb_accept_report.specs.declared.report.ReportError.TheVariants as errors
 use Rattle.jolmurig_command.specs.Accepts.{Accept}
+use Rattle.jolmurig_command.specs.declared.fault.Fault.TheVariants as fault
 use Rattle.jolmurig.specs.Failures.{IsUnread}
 use Rattle.jolmurig.specs.Files.{Gives}
 use Rattle.jolmurig.specs.declared.files.Purpose.TheVariants as purpose
@@ -79,7 +80,7 @@ module _ (gives : Gives) where
 
   -- it is not read
   abbrev pub IsNoKeytab : Option (List ℕ) → Failure → Type 0
-  IsNoKeytab None e = e ≡ failure.Arguments
+  IsNoKeytab None e = e ≡ failure.Arguments fault.NoKeytab
   IsNoKeytab (Some name) e = IsUnread gives purpose.Keytab name e
 
 -- What files give by their names, and a clock tells.

@@ -24,7 +24,7 @@ use crate::list::list_of;
 use crate::openers::Openers;
 use crate::passwords::passwords_of_files;
 use crate::proxy::{Passed, passed_of};
-use jolmurig_command::{Accept, Command, Direction, Format, Output, Show, parse};
+use jolmurig_command::{Accept, Command, Direction, Fault, Format, Output, Show, TypeName, parse};
 use krb_accept_report::Report;
 use krb_io::write_all;
 use krb_show_any::{Kind, PageError, Pages, kind_of_name};
@@ -47,14 +47,14 @@ fn write_out<W: Write>(output: &mut W, octets: &[u8]) -> Result<(), Failure<'sta
 }
 
 /// The kind of the type that is asked for.
-fn kind_asked(show: &Show) -> Result<Option<Kind>, Failure<'static>>
+fn kind_asked<'a>(show: &Show<'a>) -> Result<Option<Kind>, Failure<'a>>
     ensures found { IfOk result (IsKindOf show.now) }
-    ensures rejected { IfErr result (λ e. (e ≡ Failure.Arguments) × IsOfNoKind show.now) }
+    ensures rejected { IfErr result (IsOfNoKind show.now) }
 {
     match show.type_name {
         Some(name) => match kind_of_name(name) {
             Some(kind) => Ok(Some(kind)),
-            None => Err(Failure::Arguments),
+            None => Err(Failure::NoType(TypeName { text: name })),
         },
         None => {
             if show.is_tree {
@@ -216,7 +216,7 @@ fn check<'a, S: Pages<Kind, PageError>, C: Calls, F: Files, R: Read, W: Write>(
 {
     match kind_of_name(name) {
         Some(kind) => check_as::<S, C, F, R, W>(alloc, kind, file, files, input, output),
-        None => Err(Failure::Arguments),
+        None => Err(Failure::NoType(TypeName { text: name })),
     }
 }
 
@@ -337,10 +337,10 @@ fn accept<'a, C: Calls, F: Files + Clock, R: Read, W: Write>(
     }
 }
 
-/// Does what a command asks for.
+/// Does what a command asks for, if the arguments are one.
 fn obey<'a, S: Pages<Kind, PageError>, C: Calls, F: Files + Clock, R: Read, W: Write>(
     alloc: Global,
-    command: Option<Command<'a>>,
+    command: Result<Command<'a>, Fault<'a>>,
     files: &F,
     input: &mut R,
     output: &mut W,
@@ -349,20 +349,20 @@ fn obey<'a, S: Pages<Kind, PageError>, C: Calls, F: Files + Clock, R: Read, W: W
         (R.remaining input.old) (R.remaining input.new) (W.contents output.old) (W.contents output.new) result }
 {
     match command {
-        None => Err(Failure::Arguments),
-        Some(Command::Help) => write_help(alloc, output),
-        Some(Command::Show(asked)) => show::<S, C, F, R, W>(alloc, &asked, files, input, output),
-        Some(Command::Check(name, of)) => {
+        Err(fault) => Err(Failure::Arguments(fault)),
+        Ok(Command::Help) => write_help(alloc, output),
+        Ok(Command::Show(asked)) => show::<S, C, F, R, W>(alloc, &asked, files, input, output),
+        Ok(Command::Check(name, of)) => {
             check::<S, C, F, R, W>(alloc, name.text, of.file, files, input, output)
         }
-        Some(Command::List(of)) => list::<C, F, R, W>(alloc, of.file, files, input, output),
-        Some(Command::Convert(to, of)) => {
+        Ok(Command::List(of)) => list::<C, F, R, W>(alloc, of.file, files, input, output),
+        Ok(Command::Convert(to, of)) => {
             convert::<C, F, R, W>(alloc, to, of.file, files, input, output)
         }
-        Some(Command::Proxy(way, of)) => {
+        Ok(Command::Proxy(way, of)) => {
             pass_on::<C, F, R, W>(alloc, way, of.file, files, input, output)
         }
-        Some(Command::Accept(asked)) => accept::<C, F, R, W>(alloc, &asked, files, input, output),
+        Ok(Command::Accept(asked)) => accept::<C, F, R, W>(alloc, &asked, files, input, output),
     }
 }
 

@@ -1,13 +1,17 @@
 //! Why a run is rejected.
 
 ghost use Rattle.std.specs.IoError.{error_kind};
-ghost use Rattle.std.specs.Prelude.{◌≡◌, ◌≢◌, ◌++◌, IfOk, OnOk};
+ghost use Rattle.std.specs.Prelude.{◌≡◌, ◌≢◌, ◌++◌, codes, IfOk, OnOk};
 ghost use Rattle.std.specs.declared.io.ErrorKind.TheVariants as kinds;
 ghost use Rattle.jolmurig.specs.declared.failure.Failure.TheVariants as failures;
+ghost use Rattle.krb_show_text.specs.Text.{escaped};
+ghost use Rattle.krb_show_text.specs.declared.escape.Style.TheVariants as style;
 ghost use Rattle.jolmurig.specs.Files.{unread_reason};
-ghost use Rattle.jolmurig.specs.Failures.{breaker, file_text, kind_of_message, line_of, of_input, option_of, own_line, place, place_text, placed, reason, rule_of, rule_of_proxy, status_of_failure, subject, undecided_reason, undecided_subject};
+ghost use Rattle.jolmurig.specs.Failures.{breaker, file_text, kind_of_message, line_of, of_input, mark, option_of, own_line, place, place_text, placed, reason, rule_of, rule_of_proxy, status_of_failure, subject, undecided_reason, undecided_subject};
 
+use crate::fault::push_fault;
 use crate::files::{Purpose, Unread, UnreadFile};
+use jolmurig_command::{Fault, TypeName};
 use krb_file_tools::convert::ConvertError;
 use krb_files::keytab::KeytabError;
 use krb_input::InputError;
@@ -39,8 +43,12 @@ pub enum Undecided<'a> {
 /// Why a run is rejected.
 #[derive(Drop)]
 pub enum Failure<'a> {
-    /// The arguments are no command.
-    Arguments,
+    /// The arguments are no command: what is wrong with them.
+    Arguments(Fault<'a>),
+    /// An argument is no text.
+    NotText,
+    /// No type has the name that is asked for.
+    NoType(TypeName<'a>),
     /// The text of an option `--key` is no key.
     Key,
     /// A file is not read.
@@ -209,6 +217,14 @@ fn push_file(line: &mut Vec<u8>, file: &UnreadFile) -> Result<(), AllocError>
     push_escaped(line, Style::Plain, file.name.as_bytes())
 }
 
+/// Appends that no type has this name.
+fn push_no_type(line: &mut Vec<u8>, name: &TypeName) -> Result<(), AllocError>
+    ensures { OnOk result (line.new.items ≡ line.old.items ++ codes "--as: no type " ++ escaped style.Plain name.now) }
+{
+    line.extend_from_slice(b"--as: no type ")?;
+    push_escaped(line, Style::Plain, name.text.as_bytes())
+}
+
 impl<'a> Undecided<'a> {
     /// Appends what it is of.
     fn push_subject(&self, line: &mut Vec<u8>) -> Result<(), AllocError>
@@ -249,9 +265,9 @@ impl<'a> Failure<'a> {
         ensures { result ≡ status_of_failure self.now }
     {
         match self {
-            Failure::Arguments | Failure::Key => 2,
-            Failure::Time | Failure::Skew | Failure::Server | Failure::Realm => 2,
-            Failure::Bindings | Failure::Undecided(_) => 2,
+            Failure::Arguments(_) | Failure::NotText | Failure::NoType(_) => 2,
+            Failure::Key | Failure::Time | Failure::Skew | Failure::Server => 2,
+            Failure::Realm | Failure::Bindings | Failure::Undecided(_) => 2,
             _ => 1,
         }
     }
@@ -263,7 +279,9 @@ impl<'a> Failure<'a> {
         match self {
             Failure::NoFile(file) => push_file(line, file),
             Failure::Undecided(why) => why.push_subject(line),
-            Failure::Arguments => line.extend_from_slice(b"wrong arguments"),
+            Failure::Arguments(fault) => push_fault(line, fault),
+            Failure::NotText => line.extend_from_slice(b"an argument is not UTF-8"),
+            Failure::NoType(name) => push_no_type(line, name),
             Failure::Key => line.extend_from_slice(b"--key"),
             Failure::KeyInFile => line.extend_from_slice(b"--key-file"),
             Failure::Keytab(_) => line.extend_from_slice(b"--keytab"),
@@ -294,8 +312,7 @@ impl<'a> Failure<'a> {
         ensures { result.now ≡ reason self.now }
     {
         match self {
-            Failure::Arguments =>
-                "usage: jolmurig show [OPTION].. [FILE], jolmurig check --as TYPE [FILE], jolmurig list [FILE], jolmurig convert kirbi|ccache [FILE], jolmurig proxy request|reply [FILE] or jolmurig accept --keytab FILE [OPTION].. [FILE]; see jolmurig --help",
+            Failure::Arguments(_) | Failure::NotText | Failure::NoType(_) => "see jolmurig --help",
             Failure::Key =>
                 "a key is ETYPE:HEX, where ETYPE is 16 to 20 or the name of such an encryption type, and HEX the octets of a key of its length",
             Failure::NoFile(file) => unread_reason(file.why),
@@ -329,6 +346,16 @@ impl<'a> Failure<'a> {
         }
     }
 
+    /// What stands between these two.
+    fn mark(&self) -> &'static str
+        ensures { result.now ≡ mark self.now }
+    {
+        match self {
+            Failure::Arguments(_) | Failure::NotText | Failure::NoType(_) => "; ",
+            _ => ": ",
+        }
+    }
+
     /// How many octets stand before the error, if that is known.
     fn place(&self) -> Option<usize>
         ensures { result ≡ place self.now }
@@ -350,7 +377,7 @@ impl<'a> Failure<'a> {
         let mut line = Vec::new(alloc);
         line.extend_from_slice(b"jolmurig: ")?;
         self.push_subject(&mut line)?;
-        line.extend_from_slice(b": ")?;
+        line.extend_from_slice(self.mark().as_bytes())?;
         line.extend_from_slice(self.reason().as_bytes())?;
         push_place(&mut line, alloc, self.place())?;
         line.push(b'\n')?;
@@ -390,11 +417,11 @@ impl<'a> From<InputError> for Failure<'a> {
 /// The error of arguments that could not be had: an allocation failure, or an argument that is no text and so of no command.
 pub fn arguments_failure(error: io::Error) -> Failure<'static>
     ensures memory { error_kind error ≡ kinds.OutOfMemory → result ≡ failures.Memory }
-    ensures other { error_kind error ≢ kinds.OutOfMemory → result ≡ failures.Arguments }
+    ensures other { error_kind error ≢ kinds.OutOfMemory → result ≡ failures.NotText }
 {
     if error.kind() == io::ErrorKind::OutOfMemory {
         Failure::Memory
     } else {
-        Failure::Arguments
+        Failure::NotText
     }
 }

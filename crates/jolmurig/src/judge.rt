@@ -17,7 +17,7 @@ use crate::files::{Files, Purpose, octets_of_file};
 use crate::input::read_octets;
 use crate::terms::terms_of;
 use hex::FromHexError;
-use jolmurig_command::Accept;
+use jolmurig_command::{Accept, Fault};
 use krb_accept::{PacCheck, Settings};
 use krb_accept_report::{Question, Report, ReportError, seconds_of_text};
 use krb_accept_rules::Terms;
@@ -127,7 +127,7 @@ fn keytab_of<'a, F: Files>(
 {
     match keytab {
         Some(name) => octets_of_file(alloc, files, Purpose::Keytab, name),
-        None => Err(Failure::Arguments),
+        None => Err(Failure::Arguments(Fault::NoKeytab)),
     }
 }
 
