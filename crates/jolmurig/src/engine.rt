@@ -16,7 +16,7 @@ use crate::clock::Clock;
 use crate::convert::{Conversion, conversion_of};
 use crate::failure::Failure;
 use crate::files::Files;
-use crate::help::HELP;
+use crate::help::{HELP, VERSION};
 use crate::input::{read_input, read_octets};
 use crate::judge::{judge, undecided_of};
 use crate::keys::keys_of_sources;
@@ -168,6 +168,14 @@ fn write_help<W: Write>(alloc: Global, output: &mut W) -> Result<Vec<u8>, Failur
         (λ e. (e ≡ Failure.Write) × HasTaken HELP.now (W.contents output.old) (W.contents output.new)) }
 {
     write_made(alloc, output, HELP.as_bytes())
+}
+
+/// Writes the version.
+fn write_version<W: Write>(alloc: Global, output: &mut W) -> Result<Vec<u8>, Failure<'static>>
+    ensures { MatchResult result (λ notes. (notes.items ≡ []) × Appends (W.contents output.old) (W.contents output.new) VERSION.now)
+        (λ e. (e ≡ Failure.Write) × HasTaken VERSION.now (W.contents output.old) (W.contents output.new)) }
+{
+    write_made(alloc, output, VERSION.as_bytes())
 }
 
 /// Shows a file or the input.
@@ -345,12 +353,13 @@ fn obey<'a, S: Pages<Kind, PageError>, C: Calls, F: Files + Clock, R: Read, W: W
     input: &mut R,
     output: &mut W,
 ) -> Result<Vec<u8>, Failure<'a>>
-    ensures { IsRun S.tells C.opens (F.gives files.now) C.places C.breaks C.lists C.converts C.unconverted C.passes C.blocks C.judges C.misjudges (F.ticks files.now) command.entry HELP.now
+    ensures { IsRun S.tells C.opens (F.gives files.now) C.places C.breaks C.lists C.converts C.unconverted C.passes C.blocks C.judges C.misjudges (F.ticks files.now) command.entry HELP.now VERSION.now
         (R.remaining input.old) (R.remaining input.new) (W.contents output.old) (W.contents output.new) result }
 {
     match command {
         Err(fault) => Err(Failure::Arguments(fault)),
         Ok(Command::Help) => write_help(alloc, output),
+        Ok(Command::Version) => write_version(alloc, output),
         Ok(Command::Show(asked)) => show::<S, C, F, R, W>(alloc, &asked, files, input, output),
         Ok(Command::Check(name, of)) => {
             check::<S, C, F, R, W>(alloc, name.text, of.file, files, input, output)
@@ -374,7 +383,7 @@ fn perform<'a, S: Pages<Kind, PageError>, C: Calls, F: Files + Clock, R: Read, W
     input: &mut R,
     output: &mut W,
 ) -> Result<Vec<u8>, Failure<'a>>
-    ensures { IsRunOf S.tells C.opens (F.gives files.now) C.places C.breaks C.lists C.converts C.unconverted C.passes C.blocks C.judges C.misjudges (F.ticks files.now) (map string_bytes arguments.now) HELP.now
+    ensures { IsRunOf S.tells C.opens (F.gives files.now) C.places C.breaks C.lists C.converts C.unconverted C.passes C.blocks C.judges C.misjudges (F.ticks files.now) (map string_bytes arguments.now) HELP.now VERSION.now
         (R.remaining input.old) (R.remaining input.new) (W.contents output.old) (W.contents output.new) result }
 {
     let command = parse(alloc, arguments)?;
@@ -435,7 +444,7 @@ pub fn run<S: Pages<Kind, PageError>, C: Calls, F: Files + Clock, R: Read, W: Wr
 ) -> Ended
     ensures ran { (outcome : Outcome) × (result.status ≡ status_of outcome)
         × IsLineWritten (E.contents errors.old) (E.contents errors.new) result.told outcome
-        × IsRunOf S.tells C.opens (F.gives files.now) C.places C.breaks C.lists C.converts C.unconverted C.passes C.blocks C.judges C.misjudges (F.ticks files.now) (map string_bytes arguments.now) HELP.now
+        × IsRunOf S.tells C.opens (F.gives files.now) C.places C.breaks C.lists C.converts C.unconverted C.passes C.blocks C.judges C.misjudges (F.ticks files.now) (map string_bytes arguments.now) HELP.now VERSION.now
         (R.remaining input.old) (R.remaining input.new) (W.contents output.old) (W.contents output.new) outcome }
 {
     match perform::<S, C, F, R, W>(alloc, arguments, files, input, output) {

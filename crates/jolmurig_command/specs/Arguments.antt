@@ -190,4 +190,5 @@ command_of name rest =
 -- the arguments ask for this; or the first thing from the left that is wrong with them
 abbrev pub asked_by : List (List ℕ) → Result Command Fault
 asked_by [] = Err fault.NoCommand
-asked_by (name ∷ rest) = if is_help name then Ok command.Help else command_of name rest
+asked_by (name ∷ rest) =
+    if is_help name then Ok command.Help else if is_word name (codes "--version") then Ok command.Version else command_of name rest

@@ -493,5 +493,8 @@ pub fn parse<'a>(
     if is_help(name.as_str()) {
         return Ok(Ok(Command::Help));
     }
+    if is_word(name.as_str(), "--version") {
+        return Ok(Ok(Command::Version));
+    }
     command_of(alloc, name.as_str(), rest)
 }
