@@ -54,7 +54,7 @@ _jolmurig_arguments() {
 _jolmurig() {
     COMPREPLY=()
     case $COMP_CWORD/${COMP_WORDS[1]}/${COMP_WORDS[COMP_CWORD - 1]} in
-        1/*) _jolmurig_words "show check list convert proxy accept --help" ;;
+        1/*) _jolmurig_words "show check list convert proxy accept --help --version" ;;
         */--as) _jolmurig_types ;;
         */--key | */--time | */--skew | */--server | */--realm | */--bindings) ;;
         */--pac) _jolmurig_words "required ignored" ;;

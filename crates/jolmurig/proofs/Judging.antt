@@ -6,9 +6,10 @@ use Rattle.jolmurig_command.specs.Accepts.{Accept}
 use Rattle.krb_accept.specs.declared.settings.Settings.{Settings}
 use Rattle.krb_accept_report.specs.declared.report.ReportError.{ReportError}
 use Rattle.krb_accept_rules.specs.declared.terms.Terms.{Terms}
+use Rattle.jolmurig.specs.Files.{Gives}
 use Rattle.jolmurig.specs.Judgements.{AreNoMeans, IsNoService, IsService, Ticks, failure_of_report}
 use Rattle.jolmurig.specs.Terms.{AreTerms}
-use Rattle.jolmurig.specs.Outcome.{AreNotRead, AreRead, Gives, IsJudged, IsNotJudged, Judges, Misjudges, question_of}
+use Rattle.jolmurig.specs.Outcome.{AreNotRead, AreRead, IsJudged, IsNotJudged, Judges, Misjudges, question_of}
 use Rattle.jolmurig.specs.declared.failure.Failure.{Failure}
 use Rattle.jolmurig.specs.declared.failure.Failure.TheVariants as failure
 

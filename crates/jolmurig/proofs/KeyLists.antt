@@ -1,12 +1,13 @@
 -- Keys behind keys.
-use Rattle.std.proofs.Common.{refl, ◌≡◌, ℕ, ◌+◌, List, [], ◌∷◌, ◌++◌, subst, Option, inl, inr}
+use Rattle.std.proofs.Common.{refl, ◌≡◌, ℕ, ◌+◌, List, [], ◌∷◌, ◌++◌, subst, inl, inr}
 use Rattle.std.proofs.lemmas.List.{append-nil, append_assoc}
 use Rattle.krb_decrypt.specs.Keys.{NamedKey}
+use Rattle.jolmurig.specs.Files.{Gives}
 use Rattle.jolmurig.specs.Keys.{AreKeys, HasNoKeys, IsNoSource, adds, gives_keys}
 use Rattle.jolmurig_command.specs.Shows.{Source}
 use Rattle.jolmurig.specs.declared.failure.Failure.{Failure}
 
-module _ (gives : List ℕ → Option (List ℕ) → Type 0) where
+module _ (gives : Gives) where
   -- what the keys so far are with those of the options that are left, numbered from this on, and what their error is
   pub record Continues (number : ℕ) (rest all : List Source) (keys : List NamedKey) : Type 0 where
     pub found : (more : List NamedKey) → AreKeys gives number rest more → AreKeys gives 1 all (keys ++ more)

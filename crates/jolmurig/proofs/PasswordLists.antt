@@ -1,10 +1,12 @@
 -- Passwords behind passwords.
-use Rattle.std.proofs.Common.{refl, ◌≡◌, ℕ, List, [], ◌∷◌, ◌++◌, subst, Option, inr}
+use Rattle.std.proofs.Common.{refl, ◌≡◌, ℕ, List, [], ◌∷◌, ◌++◌, subst, ◌⊎◌, inl, inr}
 use Rattle.std.proofs.lemmas.List.{append-nil, append_assoc}
+use Rattle.jolmurig.specs.Files.{Gives}
 use Rattle.jolmurig.specs.Passwords.{ArePasswords, HasNoPassword, password_gives, pushes}
 use Rattle.jolmurig.specs.declared.failure.Failure.{Failure}
+use Rattle.jolmurig.specs.declared.failure.Failure.TheVariants as failure
 
-module _ (gives : List ℕ → Option (List ℕ) → Type 0) where
+module _ (gives : Gives) where
   -- what the passwords so far are with those of the files that are left, and what their error is
   pub record Continues (rest all : List (List ℕ)) (passwords : List (List ℕ)) : Type 0 where
     pub found : (more : List (List ℕ)) → ArePasswords gives rest more → ArePasswords gives all (passwords ++ more)
@@ -19,6 +21,13 @@ module _ (gives : List ℕ → Option (List ℕ) → Type 0) where
         rw (p, append_assoc passwords (one ∷ []) more) (h.found (one ∷ more) whole);
     none = λ f later. h.none f (rw e (inr (octets, given, later)));
   }
+
+  -- one is not read
+  pub continues_rejected : (v : List ℕ) (rest behind all : List (List ℕ)) (passwords : List (List ℕ)) (f : Failure) → rest ≡ v ∷ behind
+      → Continues rest all passwords → (f ≡ failure.Memory) ⊎ HasNoPassword gives (v ∷ []) f → (f ≡ failure.Memory) ⊎ HasNoPassword gives all f
+  continues_rejected v rest behind all passwords f e h (inl memory) = inl memory
+  continues_rejected v rest behind all passwords f e h (inr (inl unread)) = inr (h.none f (rw e (inl unread)))
+  continues_rejected v rest behind all passwords f e h (inr (inr (octets, given, none))) = absurd none
 
   -- none is left
   pub continues_none : (rest all : List (List ℕ)) (passwords : List (List ℕ)) → rest ≡ [] → Continues rest all passwords

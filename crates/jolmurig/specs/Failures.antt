@@ -1,5 +1,5 @@
 -- The line and the status of a failure.
-use Rattle.std.specs.Prelude.{◌≡◌, ℕ, ◌+◌, Option, Some, None, List, [], ◌∷◌, ◌++◌, codes}
+use Rattle.std.specs.Prelude.{◌≡◌, ℕ, ◌+◌, Option, Some, None, Err, List, [], ◌∷◌, ◌++◌, codes}
 use Rattle.std.specs.Fmt.{decimal}
 use Rattle.krb_file_tools.specs.declared.convert.error.ConvertError.{ConvertError}
 use Rattle.krb_file_tools.specs.declared.convert.error.ConvertError.TheVariants as rule
@@ -14,14 +14,23 @@ use Rattle.krb_show_any.specs.declared.error.PageError.TheVariants as page
 use Rattle.krb_show_any.specs.Names.{kind_name}
 use Rattle.krb_show_any.specs.declared.kind.Kind.{Kind}
 use Rattle.krb_show_any.specs.declared.kind.Kind.TheVariants as kinds
+use Rattle.krb_show_text.specs.Text.{escaped}
+use Rattle.krb_show_text.specs.declared.escape.Style.TheVariants as style
+use Rattle.jolmurig.specs.Faults.{fault_text}
+use Rattle.jolmurig.specs.Files.{Gives, UnreadFile, unread_reason}
+use Rattle.jolmurig.specs.declared.files.Purpose.{Purpose}
+use Rattle.jolmurig.specs.declared.files.Purpose.TheVariants as purpose
+use Rattle.jolmurig.specs.declared.files.Unread.{Unread}
 use Rattle.jolmurig.specs.declared.failure.Failure.{Failure}
-use Rattle.jolmurig.specs.declared.failure.Failure.TheVariants.{Arguments, Key, KeyFile, KeyInFile, KeytabFile, Keytab, PasswordFile, NotBase64, UnknownKind, NoEntries, Convert, Proxy, Octets, Time, Skew, Server, Realm, Bindings, Refused, Memory, Read, Write}
+use Rattle.jolmurig.specs.declared.failure.Failure.TheVariants.{Arguments, NotText, NoType, Key, KeyInFile, Keytab, NotBase64, UnknownKind, NoEntries, Convert, Proxy, Octets, Time, Skew, Server, Realm, Bindings, Refused, Memory, Read, Write}
 use Rattle.jolmurig.specs.declared.failure.Failure.TheVariants as failure
 use Rattle.jolmurig.specs.declared.failure.Undecided.{Undecided}
 use Rattle.jolmurig.specs.declared.failure.Undecided.TheVariants as undecided
 
 abbrev pub status_of_failure : Failure → ℕ
-status_of_failure Arguments = 2
+status_of_failure (Arguments fault) = 2
+status_of_failure NotText = 2
+status_of_failure (NoType name) = 2
 status_of_failure Key = 2
 status_of_failure Time = 2
 status_of_failure Skew = 2
@@ -41,9 +50,29 @@ breaker (proxy.Pvno k) = kind_name (kind_of_message k)
 breaker (proxy.MsgType k) = kind_name (kind_of_message k)
 breaker rule = codes "proxy"
 
+-- ---- files
+
+-- the option that names a file for a purpose, and a blank; the name of the input stands alone
+abbrev pub option_of : Purpose → List ℕ
+option_of purpose.Input = []
+option_of purpose.Keytab = codes "--keytab "
+option_of purpose.KeyFile = codes "--key-file "
+option_of purpose.PasswordFile = codes "--password-file "
+
+-- the name of a file behind its option; an octet that is not printable ASCII is `\xNN`
+abbrev pub file_text : UnreadFile → List ℕ
+file_text f = option_of f.purpose ++ escaped style.Plain f.name
+
+-- a file is not read, for this reason
+abbrev pub IsUnread : Gives → Purpose → List ℕ → Failure → Type 0
+IsUnread gives purpose name e =
+    (why : Unread) × gives name (Err why) × (e ≡ failure.NoFile (record { purpose = purpose; name = name; why = why }))
+
+-- ---- the parts of the line
+
 -- what nothing is decided of a token for, and why
 abbrev pub undecided_subject : Undecided → List ℕ
-undecided_subject undecided.KeytabFile = codes "--keytab"
+undecided_subject (undecided.NoFile f) = file_text f
 undecided_subject (undecided.Keytab why) = codes "--keytab"
 undecided_subject undecided.Clock = codes "clock"
 undecided_subject undecided.NotBase64 = codes "base64"
@@ -52,7 +81,7 @@ undecided_subject undecided.Read = codes "reading"
 undecided_subject undecided.Write = codes "writing"
 
 abbrev pub undecided_reason : Undecided → List ℕ
-undecided_reason undecided.KeytabFile = codes "the file could not be read"
+undecided_reason (undecided.NoFile f) = unread_reason f.why
 undecided_reason (undecided.Keytab why) = page_reason (page.Keytab why)
 undecided_reason undecided.Clock = codes "the clock could not be read; --time names a time"
 undecided_reason undecided.NotBase64 = codes "the input begins as PEM or as a header of HTTP, and no base64 follows"
@@ -62,13 +91,13 @@ undecided_reason undecided.Write = codes "the output could not be written"
 
 -- what the failure is of
 abbrev pub subject : Failure → List ℕ
-subject Arguments = codes "wrong arguments"
+subject (Arguments fault) = fault_text fault
+subject NotText = codes "an argument is not UTF-8"
+subject (NoType name) = codes "--as: no type " ++ escaped style.Plain name
 subject Key = codes "--key"
-subject KeyFile = codes "--key-file"
+subject (failure.NoFile f) = file_text f
 subject KeyInFile = codes "--key-file"
-subject KeytabFile = codes "--keytab"
 subject (Keytab why) = codes "--keytab"
-subject PasswordFile = codes "--password-file"
 subject NotBase64 = codes "base64"
 subject UnknownKind = codes "unknown kind"
 subject NoEntries = codes "list"
@@ -120,15 +149,14 @@ rule_of_proxy other = codes "the octets are no encoding"
 
 -- what happened
 abbrev pub reason : Failure → List ℕ
-reason Arguments =
-    codes "usage: jolmurig show [OPTION].. [FILE], jolmurig check --as TYPE [FILE], jolmurig list [FILE], jolmurig convert kirbi|ccache [FILE], jolmurig proxy request|reply [FILE] or jolmurig accept --keytab FILE [OPTION].. [FILE]; see jolmurig --help"
+reason (Arguments fault) = codes "see jolmurig --help"
+reason NotText = codes "see jolmurig --help"
+reason (NoType name) = codes "see jolmurig --help"
 reason Key =
     codes "a key is ETYPE:HEX, where ETYPE is 16 to 20 or the name of such an encryption type, and HEX the octets of a key of its length"
-reason KeyFile = codes "the file could not be read"
+reason (failure.NoFile f) = unread_reason f.why
 reason KeyInFile =
     codes "the file holds no key ETYPE:HEX, where ETYPE is 16 to 20 or the name of such an encryption type, and HEX the octets of a key of its length"
-reason KeytabFile = codes "the file could not be read"
-reason PasswordFile = codes "the file could not be read"
 reason (Keytab why) = page_reason (page.Keytab why)
 reason NotBase64 = codes "the input begins as PEM or as a header of HTTP, and no base64 follows"
 reason UnknownKind = codes "the octets begin as no kind that is known; --as TYPE names one"
@@ -147,6 +175,13 @@ reason Memory = codes "an allocation failed"
 reason Read = codes "the input could not be read"
 reason Write = codes "the output could not be written"
 
+-- what stands between these two
+abbrev pub mark : Failure → List ℕ
+mark (Arguments fault) = codes "; "
+mark NotText = codes "; "
+mark (NoType name) = codes "; "
+mark e = codes ": "
+
 -- how many octets stand before the error, if that is known
 abbrev pub place : Failure → Option ℕ
 place (Octets kind why found) = found
@@ -159,9 +194,9 @@ abbrev pub place_text : Option ℕ → List ℕ
 place_text None = []
 place_text (Some at) = placed at
 
--- jolmurig: SUBJECT: REASON, and, if it is known, the place
+-- jolmurig: SUBJECT: REASON, and, if it is known, the place; jolmurig: FAULT; REASON
 abbrev pub own_line : Failure → List ℕ
-own_line e = codes "jolmurig: " ++ subject e ++ codes ": " ++ reason e ++ place_text (place e) ++ 10 ∷ []
+own_line e = codes "jolmurig: " ++ subject e ++ mark e ++ reason e ++ place_text (place e) ++ 10 ∷ []
 
 -- that line; none where the output says why
 abbrev pub line_of : Failure → List ℕ

@@ -10,6 +10,10 @@ use Rattle.krb_accept_report.specs.Texts.{IsTimeOf}
 use Rattle.krb_accept_report.specs.declared.report.ReportError.{ReportError}
 use Rattle.krb_accept_report.specs.declared.report.ReportError.TheVariants as errors
 use Rattle.jolmurig_command.specs.Accepts.{Accept}
+use Rattle.jolmurig_command.specs.declared.fault.Fault.TheVariants as fault
+use Rattle.jolmurig.specs.Failures.{IsUnread}
+use Rattle.jolmurig.specs.Files.{Gives}
+use Rattle.jolmurig.specs.declared.files.Purpose.TheVariants as purpose
 use Rattle.jolmurig.specs.Terms.{AreNoTerms, AreTerms}
 use Rattle.jolmurig.specs.declared.failure.Failure.{Failure}
 use Rattle.jolmurig.specs.declared.failure.Failure.TheVariants as failure
@@ -68,19 +72,19 @@ pub record AreSettings (a : Accept) (s : Settings) : Type 0 where
 -- ---- the keytab, and all of it
 
 -- What files give by their names.
-module _ (gives : List ℕ → Option (List ℕ) → Type 0) where
+module _ (gives : Gives) where
   -- the octets of the keytab that is named
   abbrev pub IsKeytab : Option (List ℕ) → List ℕ → Type 0
   IsKeytab None octets = ⊥
-  IsKeytab (Some name) octets = gives name (Some octets)
+  IsKeytab (Some name) octets = gives name (Ok octets)
 
-  -- it cannot be read
+  -- it is not read
   abbrev pub IsNoKeytab : Option (List ℕ) → Failure → Type 0
-  IsNoKeytab None e = e ≡ failure.Arguments
-  IsNoKeytab (Some name) e = (e ≡ failure.Undecided undecided.KeytabFile) × gives name None
+  IsNoKeytab None e = e ≡ failure.Arguments fault.NoKeytab
+  IsNoKeytab (Some name) e = IsUnread gives purpose.Keytab name e
 
 -- What files give by their names, and a clock tells.
-module _ (gives : List ℕ → Option (List ℕ) → Type 0) (ticks : Ticks) where
+module _ (gives : Gives) (ticks : Ticks) where
   -- what it asks of tokens, the time, and the keytab
   pub record AreMeans (a : Accept) (settings : Settings) (clock : ℤ) (keytab : List ℕ) : Type 0 where
     pub are_settings : AreSettings a settings
@@ -119,4 +123,5 @@ undecided_of failure.Memory = failure.Undecided undecided.Memory
 undecided_of failure.NotBase64 = failure.Undecided undecided.NotBase64
 undecided_of failure.Read = failure.Undecided undecided.Read
 undecided_of failure.Write = failure.Undecided undecided.Write
+undecided_of (failure.NoFile f) = failure.Undecided (undecided.NoFile f)
 undecided_of other = other

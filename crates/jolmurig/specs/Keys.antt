@@ -1,5 +1,5 @@
 -- The keys that the options name.
-use Rattle.std.specs.Prelude.{◌≡◌, ◌⊎◌, ℕ, ◌+◌, List, [], ◌∷◌, ◌++◌, Option, Some, None, Err, codes}
+use Rattle.std.specs.Prelude.{◌≡◌, ◌⊎◌, ℕ, ◌+◌, List, [], ◌∷◌, ◌++◌, Option, Some, None, Ok, Err, codes}
 use Rattle.std.specs.Fmt.{decimal}
 use Rattle.std.specs.List.{flat_map}
 use Rattle.krb_input.specs.Blanks.{without_blanks}
@@ -12,6 +12,9 @@ use Rattle.krb_decrypt.specs.Keys.{NamedKey}
 use Rattle.jolmurig_command.specs.Shows.{Source}
 use Rattle.jolmurig_command.specs.declared.command.SourceKind.{SourceKind}
 use Rattle.jolmurig_command.specs.declared.command.SourceKind.TheVariants as source
+use Rattle.jolmurig.specs.Failures.{IsUnread}
+use Rattle.jolmurig.specs.Files.{Gives}
+use Rattle.jolmurig.specs.declared.files.Purpose.TheVariants as purpose
 use Rattle.jolmurig.specs.declared.failure.Failure.{Failure}
 use Rattle.jolmurig.specs.declared.failure.Failure.TheVariants as failure
 
@@ -45,25 +48,25 @@ IsNoKeytabOf octets e = (why : KeytabError) × (keytab_of octets ≡ Err why) ×
 abbrev pub adds : (List NamedKey → Type 0) → List NamedKey → List NamedKey → Type 0
 adds are old new = (more : List NamedKey) × are more × (new ≡ old ++ more)
 
--- What files give, by their names: octets, or nothing where one cannot be read.
-module _ (gives : List ℕ → Option (List ℕ) → Type 0) where
+-- What files give, by their names: octets, or why one is not read.
+module _ (gives : Gives) where
   -- the key that the text of a file is, without its blanks and line breaks, under the name of the file
   abbrev pub key_file_gives : List ℕ → List NamedKey → Type 0
-  key_file_gives name keys = (octets : List ℕ) × gives name (Some octets) × text_gives (without_blanks octets) name keys
+  key_file_gives name keys = (octets : List ℕ) × gives name (Ok octets) × text_gives (without_blanks octets) name keys
 
-  -- why a file has none: it cannot be read, or its text is no key
+  -- why a file has none: it is not read, or its text is no key
   abbrev pub IsNoKeyFile : List ℕ → Failure → Type 0
   IsNoKeyFile name e =
-      ((e ≡ failure.KeyFile) × gives name None)
-      ⊎ ((octets : List ℕ) × gives name (Some octets) × IsNoKeyIn (without_blanks octets) name failure.KeyInFile e)
+      IsUnread gives purpose.KeyFile name e
+      ⊎ ((octets : List ℕ) × gives name (Ok octets) × IsNoKeyIn (without_blanks octets) name failure.KeyInFile e)
 
   -- the keys of the keytab that a file is
   abbrev pub keytab_gives : List ℕ → List NamedKey → Type 0
-  keytab_gives name keys = (octets : List ℕ) × gives name (Some octets) × IsKeytabOf octets keys
+  keytab_gives name keys = (octets : List ℕ) × gives name (Ok octets) × IsKeytabOf octets keys
 
-  -- why a file has none: it cannot be read, or is no keytab
+  -- why a file has none: it is not read, or is no keytab
   abbrev pub IsNoKeytab : List ℕ → Failure → Type 0
-  IsNoKeytab name e = ((e ≡ failure.KeytabFile) × gives name None) ⊎ ((octets : List ℕ) × gives name (Some octets) × IsNoKeytabOf octets e)
+  IsNoKeytab name e = IsUnread gives purpose.Keytab name e ⊎ ((octets : List ℕ) × gives name (Ok octets) × IsNoKeytabOf octets e)
 
   -- the keys of an option with this number
   abbrev pub gives_keys : ℕ → Source → List NamedKey → Type 0

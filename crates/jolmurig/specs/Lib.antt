@@ -1,3 +1,5 @@
+pub mod Files
+pub mod Faults
 pub mod Failures
 pub mod Keys
 pub mod Passwords

@@ -25,18 +25,21 @@ use Rattle.jolmurig.specs.Lists.{IsListed, IsUnlisted}
 use Rattle.jolmurig.specs.Passages.{IsBlocked}
 use Rattle.jolmurig.specs.Passwords.{ArePasswords, HasNoPassword}
 use Rattle.jolmurig_command.specs.Arguments.{asked_by}
-use Rattle.jolmurig.specs.Failures.{line_of, status_of_failure}
+use Rattle.jolmurig.specs.Failures.{IsUnread, line_of, status_of_failure}
+use Rattle.jolmurig.specs.Files.{Gives}
+use Rattle.jolmurig.specs.declared.files.Purpose.TheVariants as purpose
 use Rattle.jolmurig.specs.Keys.{AreKeys, HasNoKeys}
 use Rattle.jolmurig_command.specs.Shows.{Show}
+use Rattle.jolmurig_command.specs.declared.fault.Fault.{Fault}
 use Rattle.jolmurig_command.specs.declared.command.Command.{Command}
 use Rattle.jolmurig_command.specs.declared.command.Command.TheVariants as command
-use Rattle.jolmurig_command.specs.declared.command.Command.TheVariants.{Help}
+use Rattle.jolmurig_command.specs.declared.command.Command.TheVariants.{Help, Version}
 use Rattle.jolmurig_command.specs.declared.command.Direction.{Direction}
 use Rattle.jolmurig_command.specs.declared.command.Format.{Format}
 use Rattle.jolmurig_command.specs.declared.command.Output.{Output}
 use Rattle.jolmurig_command.specs.declared.command.Output.TheVariants as output
 use Rattle.jolmurig.specs.declared.failure.Failure.{Failure}
-use Rattle.jolmurig.specs.declared.failure.Failure.TheVariants.{Arguments, Memory, NotBase64, Read, Refused, Write}
+use Rattle.jolmurig.specs.declared.failure.Failure.TheVariants.{Arguments, Memory, NoType, NotBase64, Read, Refused, Write}
 
 -- ---- standard error, and the status
 
@@ -80,20 +83,16 @@ IsWrittenRun makes fails before after outcome =
 
 -- ---- the input
 
--- what a file gives, by its name: its octets, or nothing where it cannot be read
-abbrev pub Gives : Type 1
-Gives = List ℕ → Option (List ℕ) → Type 0
-
 -- what is read: what the file gives, where one is named, and else what standard input has left, where that is known
 abbrev pub IsInput : Gives → Option (List ℕ) → Option (List ℕ) → List ℕ → Type 0
-IsInput gives (Some name) left all = gives name (Some all)
+IsInput gives (Some name) left all = gives name (Ok all)
 IsInput gives None None all = Unit {0}
 IsInput gives None (Some left) all = all ≡ left
 
--- a file that is named cannot be read; standard input may fail at any time
-abbrev pub IsUnread : Gives → Option (List ℕ) → Type 0
-IsUnread gives (Some name) = gives name None
-IsUnread gives None = Unit {0}
+-- a file that is named is not read; standard input may fail at any time
+abbrev pub FailsToRead : Gives → Option (List ℕ) → Failure → Type 0
+FailsToRead gives (Some name) e = IsUnread gives purpose.Input name e
+FailsToRead gives None e = e ≡ Read
 
 -- standard input is as it was where a file is named
 abbrev pub IsLeft : Option (List ℕ) → Option (List ℕ) → Option (List ℕ) → Type 0
@@ -106,12 +105,12 @@ AreRead gives file left octets = (all : List ℕ) × IsInput gives file left all
 
 -- nothing is read
 abbrev pub IsNoInput : Gives → Option (List ℕ) → Failure → Type 0
-IsNoInput gives file e = (e ≡ Memory) ⊎ ((e ≡ Read) × IsUnread gives file)
+IsNoInput gives file e = (e ≡ Memory) ⊎ FailsToRead gives file e
 
 -- why there are none
 abbrev pub AreNotRead : Gives → Option (List ℕ) → Option (List ℕ) → Failure → Type 0
 AreNotRead gives file left e =
-    (e ≡ Memory) ⊎ ((e ≡ Read) × IsUnread gives file)
+    (e ≡ Memory) ⊎ FailsToRead gives file e
     ⊎ ((e ≡ NotBase64) × ((all : List ℕ) × IsInput gives file left all × (octets_of all ≡ None)))
 
 -- Where the octets of the input make these, they are written; and the input is as it was where a file is named.
@@ -129,11 +128,11 @@ abbrev pub IsCheckRunAs : (Kind → List ℕ → Result (Vec Token Global) PageE
     → Option (List ℕ) → Option (List ℕ) → Option (List ℕ) → Option (List ℕ) → Outcome → Type 0
 IsCheckRunAs tells places breaks gives kind file = IsFileRun gives file (IsChecked tells breaks kind) (IsUnchecked tells places kind)
 
--- of the kind that has the name; if none has, the arguments are wrong, and nothing is read and nothing written
+-- of the kind that has the name; if none has, that is the error, and nothing is read and nothing written
 abbrev pub IsCheckRun : (Kind → List ℕ → Result (Vec Token Global) PageError → Type 0) → Places → Breaks → Gives → List ℕ → Option (List ℕ)
     → Option (List ℕ) → Option (List ℕ) → Option (List ℕ) → Option (List ℕ) → Outcome → Type 0
 IsCheckRun tells places breaks gives name file left rest before after outcome =
-    (IsNamed name None × (outcome ≡ Err Arguments) × Keeps left rest × Keeps before after)
+    (IsNamed name None × (outcome ≡ Err (NoType name)) × Keeps left rest × Keeps before after)
     ⊎ ((kind : Kind) × IsNamed name (Some kind) × IsCheckRunAs tells places breaks gives kind file left rest before after outcome)
 
 -- ---- `list` and `convert`
@@ -230,8 +229,8 @@ IsKindOf s found = by_name s.type_name s.is_tree
     by_name None false = found ≡ None
 
 -- the type that is asked for is none
-abbrev pub IsOfNoKind : Show → Type 0
-IsOfNoKind s = (name : List ℕ) × (s.type_name ≡ Some name) × IsNamed name None
+abbrev pub IsOfNoKind : Show → Failure → Type 0
+IsOfNoKind s e = (name : List ℕ) × (s.type_name ≡ Some name) × IsNamed name None × (e ≡ NoType name)
 
 -- the output that is asked for: lines where none is; lines and JSON with places where these are
 abbrev pub placed_output : Bool → Output → Output
@@ -260,7 +259,7 @@ pub record HasNoPasswords (gives : Gives) (s : Show) (e : Failure) : Type 0 wher
 -- it has no kind; or no keys; or no passwords; or an allocation failed
 abbrev pub IsUnprepared : Gives → Show → Failure → Type 0
 IsUnprepared gives s e =
-    (e ≡ Memory) ⊎ ((e ≡ Arguments) × IsOfNoKind s) ⊎ ((kind : Option Kind) × IsKindOf s kind × HasNoKeys gives 1 s.sources e)
+    (e ≡ Memory) ⊎ IsOfNoKind s e ⊎ ((kind : Option Kind) × IsKindOf s kind × HasNoKeys gives 1 s.sources e)
     ⊎ HasNoPasswords gives s e
 
 -- What octets of a kind are told as, what keys open in a page, and what files give.
@@ -295,20 +294,22 @@ module _ (tells : Kind → List ℕ → Result (Vec Token Global) PageError → 
 
   module _ (places : Places) (breaks : Breaks) (lists : Lists) (converts : Converts) (refuses : Refuses) (passes : Passes) (blocks : Blocks)
       (judges : Judges) (misjudges : Misjudges) (ticks : Ticks) where
-    -- A run of this command over an input (`rest` of it is left), where its octets and those of the output (before and after) are known.
-    abbrev pub IsRun : Option Command → List ℕ → Option (List ℕ) → Option (List ℕ) → Option (List ℕ) → Option (List ℕ) → Outcome → Type 0
-    IsRun None help input rest before after outcome = (outcome ≡ Err Arguments) × Keeps input rest × Keeps before after
-    IsRun (Some Help) help input rest before after outcome =
+    -- A run of this command, or with this fault of the arguments, over an input (`rest` of it is left), where its octets and those of the output (before and after) are known.
+    abbrev pub IsRun : Result Command Fault → List ℕ → List ℕ → Option (List ℕ) → Option (List ℕ) → Option (List ℕ) → Option (List ℕ) → Outcome → Type 0
+    IsRun (Err fault) help version input rest before after outcome = (outcome ≡ Err (Arguments fault)) × Keeps input rest × Keeps before after
+    IsRun (Ok Help) help version input rest before after outcome =
         Keeps input rest × IsWrittenRun (λ made notes. (made ≡ help) × (notes ≡ [])) (λ e. ⊥) before after outcome
-    IsRun (Some (command.Show s)) help input rest before after outcome = IsShowRun breaks places s input rest before after outcome
-    IsRun (Some (command.Check name file)) help input rest before after outcome = IsCheckRun tells places breaks gives name file input rest before after outcome
-    IsRun (Some (command.List file)) help input rest before after outcome = IsListRun gives lists file input rest before after outcome
-    IsRun (Some (command.Convert to file)) help input rest before after outcome =
+    IsRun (Ok Version) help version input rest before after outcome =
+        Keeps input rest × IsWrittenRun (λ made notes. (made ≡ version) × (notes ≡ [])) (λ e. ⊥) before after outcome
+    IsRun (Ok (command.Show s)) help version input rest before after outcome = IsShowRun breaks places s input rest before after outcome
+    IsRun (Ok (command.Check name file)) help version input rest before after outcome = IsCheckRun tells places breaks gives name file input rest before after outcome
+    IsRun (Ok (command.List file)) help version input rest before after outcome = IsListRun gives lists file input rest before after outcome
+    IsRun (Ok (command.Convert to file)) help version input rest before after outcome =
         IsConvertRun gives converts refuses to file input rest before after outcome
-    IsRun (Some (command.Proxy way file)) help input rest before after outcome = IsProxyRun gives passes blocks way file input rest before after outcome
-    IsRun (Some (command.Accept a)) help input rest before after outcome = IsAcceptRun gives ticks judges misjudges a input rest before after outcome
+    IsRun (Ok (command.Proxy way file)) help version input rest before after outcome = IsProxyRun gives passes blocks way file input rest before after outcome
+    IsRun (Ok (command.Accept a)) help version input rest before after outcome = IsAcceptRun gives ticks judges misjudges a input rest before after outcome
 
     -- A run with these arguments: that of the command that they ask for; or no memory was left to read them.
-    abbrev pub IsRunOf : List (List ℕ) → List ℕ → Option (List ℕ) → Option (List ℕ) → Option (List ℕ) → Option (List ℕ) → Outcome → Type 0
-    IsRunOf arguments help input rest before after outcome =
-        IsRun (asked_by arguments) help input rest before after outcome ⊎ ((outcome ≡ Err Memory) × Keeps input rest × Keeps before after)
+    abbrev pub IsRunOf : List (List ℕ) → List ℕ → List ℕ → Option (List ℕ) → Option (List ℕ) → Option (List ℕ) → Option (List ℕ) → Outcome → Type 0
+    IsRunOf arguments help version input rest before after outcome =
+        IsRun (asked_by arguments) help version input rest before after outcome ⊎ ((outcome ≡ Err Memory) × Keeps input rest × Keeps before after)

@@ -1,8 +1,10 @@
 -- The passwords that the options name.
 use Rattle.std.specs.List.{position_or_len}
-use Rattle.std.specs.Prelude.{◌≡◌, ◌⊎◌, ℕ, nat_eq, Bool, ◌||◌, List, [], ◌∷◌, ◌++◌, take, Option, Some, None}
+use Rattle.std.specs.Prelude.{◌≡◌, ◌⊎◌, ℕ, nat_eq, Bool, ◌||◌, List, [], ◌∷◌, ◌++◌, take, Ok}
+use Rattle.jolmurig.specs.Failures.{IsUnread}
+use Rattle.jolmurig.specs.Files.{Gives}
+use Rattle.jolmurig.specs.declared.files.Purpose.TheVariants as purpose
 use Rattle.jolmurig.specs.declared.failure.Failure.{Failure}
-use Rattle.jolmurig.specs.declared.failure.Failure.TheVariants as failure
 
 -- a line feed (10) or a carriage return (13)
 abbrev pub is_line_end : ℕ → Bool
@@ -16,11 +18,11 @@ first_line octets = take (position_or_len is_line_end octets) octets
 abbrev pub pushes : (List ℕ → Type 0) → List (List ℕ) → List (List ℕ) → Type 0
 pushes is old new = (one : List ℕ) × is one × (new ≡ old ++ one ∷ [])
 
--- What files give, by their names: octets, or nothing where one cannot be read.
-module _ (gives : List ℕ → Option (List ℕ) → Type 0) where
+-- What files give, by their names: octets, or why one is not read.
+module _ (gives : Gives) where
   -- the password that a file holds
   abbrev pub password_gives : List ℕ → List ℕ → Type 0
-  password_gives name password = (octets : List ℕ) × gives name (Some octets) × (password ≡ first_line octets)
+  password_gives name password = (octets : List ℕ) × gives name (Ok octets) × (password ≡ first_line octets)
 
   -- those of files, in their order
   abbrev pub ArePasswords : List (List ℕ) → List (List ℕ) → Type 0
@@ -28,8 +30,8 @@ module _ (gives : List ℕ → Option (List ℕ) → Type 0) where
   ArePasswords (name ∷ names) passwords =
       (one : List ℕ) × (more : List (List ℕ)) × password_gives name one × ArePasswords names more × (passwords ≡ one ∷ more)
 
-  -- the first file that cannot be read
+  -- the first file that is not read
   abbrev pub HasNoPassword : List (List ℕ) → Failure → Type 0
   HasNoPassword [] e = ⊥
   HasNoPassword (name ∷ names) e =
-      ((e ≡ failure.PasswordFile) × gives name None) ⊎ ((octets : List ℕ) × gives name (Some octets) × HasNoPassword names e)
+      IsUnread gives purpose.PasswordFile name e ⊎ ((octets : List ℕ) × gives name (Ok octets) × HasNoPassword names e)

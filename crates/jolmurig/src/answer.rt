@@ -224,7 +224,7 @@ pub fn shown<S: Pages<Kind, PageError>, C: Calls>(
     shows_keys: bool,
     openers: Openers,
     octets: &[u8],
-) -> Result<Vec<u8>, Failure>
+) -> Result<Vec<u8>, Failure<'static>>
     ensures found { IfOk result (λ made. IsWritten S.tells C.opens C.breaks kind output shows_keys openers octets.now made.items) }
     ensures printable { IfOk result (λ made. ArePrintableLines made.items) }
     ensures rejected { IfErr result (λ e. (e ≡ failure.Memory) ⊎ IsRefused S.tells C.opens C.places kind octets.now e) }

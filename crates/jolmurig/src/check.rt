@@ -16,7 +16,7 @@ pub fn check_octets<S: Pages<Kind, PageError>, C: Calls>(
     alloc: Global,
     kind: Kind,
     octets: &[u8],
-) -> Result<Vec<u8>, Failure>
+) -> Result<Vec<u8>, Failure<'static>>
     ensures found { IfOk result (λ notes. HasPage S.tells kind octets.now) }
     ensures warned { IfOk result (λ notes. AreWarnings C.breaks kind octets.now notes.items) }
     ensures rejected { IfErr result (λ e. (e ≡ failure.Memory) ⊎ IsUnchecked S.tells C.places kind octets.now e) }

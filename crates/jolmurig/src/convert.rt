@@ -20,7 +20,7 @@ const ENC_KRB_CRED_PART: u8 = 0x7d;
 const TICKET: u8 = 0x61;
 
 /// The failure that an error of a conversion is.
-fn failure_of_conversion(error: ConvertError) -> Failure
+fn failure_of_conversion(error: ConvertError) -> Failure<'static>
     ensures { result ≡ failure_of_conversion error }
 {
     match error {
@@ -84,7 +84,7 @@ pub fn conversion_of<C: Calls>(
     alloc: Global,
     to: Format,
     octets: &[u8],
-) -> Result<Conversion, Failure>
+) -> Result<Conversion, Failure<'static>>
     ensures found { IfOk result (λ c. IsConverted C.converts to octets.now c.octets.items c.notes.items) }
     ensures rejected { IfErr result (λ e. (e ≡ failure.Memory) ⊎ IsUnconverted C.unconverted to octets.now e) }
 {

@@ -16,7 +16,7 @@ use crate::clock::Clock;
 use crate::convert::{Conversion, conversion_of};
 use crate::failure::Failure;
 use crate::files::Files;
-use crate::help::HELP;
+use crate::help::{HELP, VERSION};
 use crate::input::{read_input, read_octets};
 use crate::judge::{judge, undecided_of};
 use crate::keys::keys_of_sources;
@@ -24,7 +24,7 @@ use crate::list::list_of;
 use crate::openers::Openers;
 use crate::passwords::passwords_of_files;
 use crate::proxy::{Passed, passed_of};
-use jolmurig_command::{Accept, Command, Direction, Format, Output, Show, parse};
+use jolmurig_command::{Accept, Command, Direction, Fault, Format, Output, Show, TypeName, parse};
 use krb_accept_report::Report;
 use krb_io::write_all;
 use krb_show_any::{Kind, PageError, Pages, kind_of_name};
@@ -33,7 +33,7 @@ use std::io;
 use std::io::{Read, Write};
 
 /// Writes all of the octets, and lets none wait in the writer.
-fn write_out<W: Write>(output: &mut W, octets: &[u8]) -> Result<(), Failure>
+fn write_out<W: Write>(output: &mut W, octets: &[u8]) -> Result<(), Failure<'static>>
     ensures written { OnOk result (Appends (W.contents output.old) (W.contents output.new) octets.now) }
     ensures rejected { IfErr result (λ e. (e ≡ Failure.Write) × HasTaken octets.now (W.contents output.old) (W.contents output.new)) }
 {
@@ -47,14 +47,14 @@ fn write_out<W: Write>(output: &mut W, octets: &[u8]) -> Result<(), Failure>
 }
 
 /// The kind of the type that is asked for.
-fn kind_asked(show: &Show) -> Result<Option<Kind>, Failure>
+fn kind_asked<'a>(show: &Show<'a>) -> Result<Option<Kind>, Failure<'a>>
     ensures found { IfOk result (IsKindOf show.now) }
-    ensures rejected { IfErr result (λ e. (e ≡ Failure.Arguments) × IsOfNoKind show.now) }
+    ensures rejected { IfErr result (IsOfNoKind show.now) }
 {
     match show.type_name {
         Some(name) => match kind_of_name(name) {
             Some(kind) => Ok(Some(kind)),
-            None => Err(Failure::Arguments),
+            None => Err(Failure::NoType(TypeName { text: name })),
         },
         None => {
             if show.is_tree {
@@ -92,7 +92,7 @@ struct Prepared {
 }
 
 /// The kind of what is asked to be shown, and what opens what is sealed.
-fn prepare<F: Files>(alloc: Global, files: &F, show: &Show) -> Result<Prepared, Failure>
+fn prepare<'a, F: Files>(alloc: Global, files: &F, show: &Show<'a>) -> Result<Prepared, Failure<'a>>
     ensures found { IfOk result (λ p. IsPrepared (F.gives files.now) show.now p.kind p.openers) }
     ensures rejected { IfErr result (λ e. IsUnprepared (F.gives files.now) show.now e) }
 {
@@ -110,13 +110,13 @@ fn prepare<F: Files>(alloc: Global, files: &F, show: &Show) -> Result<Prepared, 
 }
 
 /// What is written of what is asked to be shown, once it is looked up.
-fn make_prepared<S: Pages<Kind, PageError>, C: Calls, F: Files, R: Read>(
+fn make_prepared<'a, S: Pages<Kind, PageError>, C: Calls, F: Files, R: Read>(
     alloc: Global,
-    show: &Show,
+    show: &Show<'a>,
     prepared: Prepared,
     files: &F,
     input: &mut R,
-) -> Result<Vec<u8>, Failure>
+) -> Result<Vec<u8>, Failure<'a>>
     ensures found { IsPrepared (F.gives files.now) show.now prepared.kind prepared.openers
         → IfOk result (λ made. IsMade S.tells C.opens (F.gives files.now) C.breaks show.now (R.remaining input.old) made.items) }
     ensures rejected { IsPrepared (F.gives files.now) show.now prepared.kind prepared.openers
@@ -135,12 +135,12 @@ fn make_prepared<S: Pages<Kind, PageError>, C: Calls, F: Files, R: Read>(
 }
 
 /// What is written of what is asked to be shown.
-fn make<S: Pages<Kind, PageError>, C: Calls, F: Files, R: Read>(
+fn make<'a, S: Pages<Kind, PageError>, C: Calls, F: Files, R: Read>(
     alloc: Global,
-    show: &Show,
+    show: &Show<'a>,
     files: &F,
     input: &mut R,
-) -> Result<Vec<u8>, Failure>
+) -> Result<Vec<u8>, Failure<'a>>
     ensures found { IfOk result (λ made. IsMade S.tells C.opens (F.gives files.now) C.breaks show.now (R.remaining input.old) made.items) }
     ensures rejected { IfErr result (IsNotMade S.tells C.opens (F.gives files.now) C.places show.now (R.remaining input.old) (R.remaining input.new)) }
     ensures left { IsLeft show.now.file (R.remaining input.old) (R.remaining input.new) }
@@ -150,7 +150,11 @@ fn make<S: Pages<Kind, PageError>, C: Calls, F: Files, R: Read>(
 }
 
 /// Writes all of the octets; there are no notes.
-fn write_made<W: Write>(alloc: Global, output: &mut W, made: &[u8]) -> Result<Vec<u8>, Failure>
+fn write_made<W: Write>(
+    alloc: Global,
+    output: &mut W,
+    made: &[u8],
+) -> Result<Vec<u8>, Failure<'static>>
     ensures { MatchResult result (λ notes. (notes.items ≡ []) × Appends (W.contents output.old) (W.contents output.new) made.now)
         (λ e. (e ≡ Failure.Write) × HasTaken made.now (W.contents output.old) (W.contents output.new)) }
 {
@@ -159,21 +163,29 @@ fn write_made<W: Write>(alloc: Global, output: &mut W, made: &[u8]) -> Result<Ve
 }
 
 /// Writes the help.
-fn write_help<W: Write>(alloc: Global, output: &mut W) -> Result<Vec<u8>, Failure>
+fn write_help<W: Write>(alloc: Global, output: &mut W) -> Result<Vec<u8>, Failure<'static>>
     ensures { MatchResult result (λ notes. (notes.items ≡ []) × Appends (W.contents output.old) (W.contents output.new) HELP.now)
         (λ e. (e ≡ Failure.Write) × HasTaken HELP.now (W.contents output.old) (W.contents output.new)) }
 {
     write_made(alloc, output, HELP.as_bytes())
 }
 
+/// Writes the version.
+fn write_version<W: Write>(alloc: Global, output: &mut W) -> Result<Vec<u8>, Failure<'static>>
+    ensures { MatchResult result (λ notes. (notes.items ≡ []) × Appends (W.contents output.old) (W.contents output.new) VERSION.now)
+        (λ e. (e ≡ Failure.Write) × HasTaken VERSION.now (W.contents output.old) (W.contents output.new)) }
+{
+    write_made(alloc, output, VERSION.as_bytes())
+}
+
 /// Shows a file or the input.
-fn show<S: Pages<Kind, PageError>, C: Calls, F: Files, R: Read, W: Write>(
+fn show<'a, S: Pages<Kind, PageError>, C: Calls, F: Files, R: Read, W: Write>(
     alloc: Global,
-    show: &Show,
+    show: &Show<'a>,
     files: &F,
     input: &mut R,
     output: &mut W,
-) -> Result<Vec<u8>, Failure>
+) -> Result<Vec<u8>, Failure<'a>>
     ensures { IsShowRun S.tells C.opens (F.gives files.now) C.breaks C.places show.now (R.remaining input.old) (R.remaining input.new)
         (W.contents output.old) (W.contents output.new) result }
 {
@@ -182,14 +194,14 @@ fn show<S: Pages<Kind, PageError>, C: Calls, F: Files, R: Read, W: Write>(
 }
 
 /// Writes the octets of a file or the input, if they are of a kind. The notes are their warnings.
-fn check_as<S: Pages<Kind, PageError>, C: Calls, F: Files, R: Read, W: Write>(
+fn check_as<'a, S: Pages<Kind, PageError>, C: Calls, F: Files, R: Read, W: Write>(
     alloc: Global,
     kind: Kind,
-    file: Option<&str>,
+    file: Option<&'a str>,
     files: &F,
     input: &mut R,
     output: &mut W,
-) -> Result<Vec<u8>, Failure>
+) -> Result<Vec<u8>, Failure<'a>>
     ensures { IsCheckRunAs S.tells C.places C.breaks (F.gives files.now) kind (option_copied file.entry) (R.remaining input.old) (R.remaining input.new)
         (W.contents output.old) (W.contents output.new) result }
 {
@@ -199,31 +211,31 @@ fn check_as<S: Pages<Kind, PageError>, C: Calls, F: Files, R: Read, W: Write>(
 }
 
 /// Writes the octets of a file or the input, if they are of the type of this name.
-fn check<S: Pages<Kind, PageError>, C: Calls, F: Files, R: Read, W: Write>(
+fn check<'a, S: Pages<Kind, PageError>, C: Calls, F: Files, R: Read, W: Write>(
     alloc: Global,
-    name: &str,
-    file: Option<&str>,
+    name: &'a str,
+    file: Option<&'a str>,
     files: &F,
     input: &mut R,
     output: &mut W,
-) -> Result<Vec<u8>, Failure>
+) -> Result<Vec<u8>, Failure<'a>>
     ensures { IsCheckRun S.tells C.places C.breaks (F.gives files.now) name.now (option_copied file.entry) (R.remaining input.old) (R.remaining input.new)
         (W.contents output.old) (W.contents output.new) result }
 {
     match kind_of_name(name) {
         Some(kind) => check_as::<S, C, F, R, W>(alloc, kind, file, files, input, output),
-        None => Err(Failure::Arguments),
+        None => Err(Failure::NoType(TypeName { text: name })),
     }
 }
 
 /// Lists the entries of a file or the input.
-fn list<C: Calls, F: Files, R: Read, W: Write>(
+fn list<'a, C: Calls, F: Files, R: Read, W: Write>(
     alloc: Global,
-    file: Option<&str>,
+    file: Option<&'a str>,
     files: &F,
     input: &mut R,
     output: &mut W,
-) -> Result<Vec<u8>, Failure>
+) -> Result<Vec<u8>, Failure<'a>>
     ensures { IsListRun (F.gives files.now) C.lists (option_copied file.entry) (R.remaining input.old) (R.remaining input.new)
         (W.contents output.old) (W.contents output.new) result }
 {
@@ -237,7 +249,7 @@ fn write_with_notes<W: Write>(
     output: &mut W,
     made: &[u8],
     notes: Vec<u8>,
-) -> Result<Vec<u8>, Failure>
+) -> Result<Vec<u8>, Failure<'static>>
     ensures { MatchResult result (λ told. (told.items ≡ notes.items) × Appends (W.contents output.old) (W.contents output.new) made.now)
         (λ e. (e ≡ Failure.Write) × HasTaken made.now (W.contents output.old) (W.contents output.new)) }
 {
@@ -246,14 +258,14 @@ fn write_with_notes<W: Write>(
 }
 
 /// Converts a file or the input.
-fn convert<C: Calls, F: Files, R: Read, W: Write>(
+fn convert<'a, C: Calls, F: Files, R: Read, W: Write>(
     alloc: Global,
     to: Format,
-    file: Option<&str>,
+    file: Option<&'a str>,
     files: &F,
     input: &mut R,
     output: &mut W,
-) -> Result<Vec<u8>, Failure>
+) -> Result<Vec<u8>, Failure<'a>>
     ensures { IsConvertRun (F.gives files.now) C.converts C.unconverted to (option_copied file.entry) (R.remaining input.old) (R.remaining input.new)
         (W.contents output.old) (W.contents output.new) result }
 {
@@ -263,14 +275,14 @@ fn convert<C: Calls, F: Files, R: Read, W: Write>(
 }
 
 /// Passes a file or the input on through a proxy.
-fn pass_on<C: Calls, F: Files, R: Read, W: Write>(
+fn pass_on<'a, C: Calls, F: Files, R: Read, W: Write>(
     alloc: Global,
     way: Direction,
-    file: Option<&str>,
+    file: Option<&'a str>,
     files: &F,
     input: &mut R,
     output: &mut W,
-) -> Result<Vec<u8>, Failure>
+) -> Result<Vec<u8>, Failure<'a>>
     ensures { IsProxyRun (F.gives files.now) C.passes C.blocks way (option_copied file.entry) (R.remaining input.old) (R.remaining input.new)
         (W.contents output.old) (W.contents output.new) result }
 {
@@ -289,7 +301,7 @@ fn with_line_feed(line: Vec<u8>) -> Result<Vec<u8>, AllocError>
 }
 
 /// What a line that is written comes to.
-fn outcome_of(alloc: Global, accepts: bool) -> Result<Vec<u8>, Failure>
+fn outcome_of(alloc: Global, accepts: bool) -> Result<Vec<u8>, Failure<'static>>
     ensures { MatchResult result (λ notes. (notes.items ≡ []) × (accepts ≡ true)) (λ e. (e ≡ Failure.Refused) × (accepts ≡ false)) }
 {
     if accepts {
@@ -300,7 +312,11 @@ fn outcome_of(alloc: Global, accepts: bool) -> Result<Vec<u8>, Failure>
 }
 
 /// Writes what is said of a token. The failure `Refused` says that its client is not let in.
-fn write_report<W: Write>(alloc: Global, output: &mut W, report: Report) -> Result<Vec<u8>, Failure>
+fn write_report<W: Write>(
+    alloc: Global,
+    output: &mut W,
+    report: Report,
+) -> Result<Vec<u8>, Failure<'static>>
     ensures { IsReportWritten report.accepts report.line.items (W.contents output.old) (W.contents output.new) result }
 {
     let accepts = report.accepts;
@@ -310,13 +326,13 @@ fn write_report<W: Write>(alloc: Global, output: &mut W, report: Report) -> Resu
 }
 
 /// Says whether a service lets the client of a token in.
-fn accept<C: Calls, F: Files + Clock, R: Read, W: Write>(
+fn accept<'a, C: Calls, F: Files + Clock, R: Read, W: Write>(
     alloc: Global,
-    asked: &Accept,
+    asked: &Accept<'a>,
     files: &F,
     input: &mut R,
     output: &mut W,
-) -> Result<Vec<u8>, Failure>
+) -> Result<Vec<u8>, Failure<'a>>
     ensures { IsAcceptRun (F.gives files.now) (F.ticks files.now) C.judges C.misjudges asked.now (R.remaining input.old) (R.remaining input.new)
         (W.contents output.old) (W.contents output.new) result }
 {
@@ -329,44 +345,45 @@ fn accept<C: Calls, F: Files + Clock, R: Read, W: Write>(
     }
 }
 
-/// Does what a command asks for.
-fn obey<S: Pages<Kind, PageError>, C: Calls, F: Files + Clock, R: Read, W: Write>(
+/// Does what a command asks for, if the arguments are one.
+fn obey<'a, S: Pages<Kind, PageError>, C: Calls, F: Files + Clock, R: Read, W: Write>(
     alloc: Global,
-    command: Option<Command>,
+    command: Result<Command<'a>, Fault<'a>>,
     files: &F,
     input: &mut R,
     output: &mut W,
-) -> Result<Vec<u8>, Failure>
-    ensures { IsRun S.tells C.opens (F.gives files.now) C.places C.breaks C.lists C.converts C.unconverted C.passes C.blocks C.judges C.misjudges (F.ticks files.now) command.entry HELP.now
+) -> Result<Vec<u8>, Failure<'a>>
+    ensures { IsRun S.tells C.opens (F.gives files.now) C.places C.breaks C.lists C.converts C.unconverted C.passes C.blocks C.judges C.misjudges (F.ticks files.now) command.entry HELP.now VERSION.now
         (R.remaining input.old) (R.remaining input.new) (W.contents output.old) (W.contents output.new) result }
 {
     match command {
-        None => Err(Failure::Arguments),
-        Some(Command::Help) => write_help(alloc, output),
-        Some(Command::Show(asked)) => show::<S, C, F, R, W>(alloc, &asked, files, input, output),
-        Some(Command::Check(name, of)) => {
+        Err(fault) => Err(Failure::Arguments(fault)),
+        Ok(Command::Help) => write_help(alloc, output),
+        Ok(Command::Version) => write_version(alloc, output),
+        Ok(Command::Show(asked)) => show::<S, C, F, R, W>(alloc, &asked, files, input, output),
+        Ok(Command::Check(name, of)) => {
             check::<S, C, F, R, W>(alloc, name.text, of.file, files, input, output)
         }
-        Some(Command::List(of)) => list::<C, F, R, W>(alloc, of.file, files, input, output),
-        Some(Command::Convert(to, of)) => {
+        Ok(Command::List(of)) => list::<C, F, R, W>(alloc, of.file, files, input, output),
+        Ok(Command::Convert(to, of)) => {
             convert::<C, F, R, W>(alloc, to, of.file, files, input, output)
         }
-        Some(Command::Proxy(way, of)) => {
+        Ok(Command::Proxy(way, of)) => {
             pass_on::<C, F, R, W>(alloc, way, of.file, files, input, output)
         }
-        Some(Command::Accept(asked)) => accept::<C, F, R, W>(alloc, &asked, files, input, output),
+        Ok(Command::Accept(asked)) => accept::<C, F, R, W>(alloc, &asked, files, input, output),
     }
 }
 
 /// Does what the arguments ask for. Returned are notes, none or lines.
-fn perform<S: Pages<Kind, PageError>, C: Calls, F: Files + Clock, R: Read, W: Write>(
+fn perform<'a, S: Pages<Kind, PageError>, C: Calls, F: Files + Clock, R: Read, W: Write>(
     alloc: Global,
-    arguments: &[String],
+    arguments: &'a [String],
     files: &F,
     input: &mut R,
     output: &mut W,
-) -> Result<Vec<u8>, Failure>
-    ensures { IsRunOf S.tells C.opens (F.gives files.now) C.places C.breaks C.lists C.converts C.unconverted C.passes C.blocks C.judges C.misjudges (F.ticks files.now) (map string_bytes arguments.now) HELP.now
+) -> Result<Vec<u8>, Failure<'a>>
+    ensures { IsRunOf S.tells C.opens (F.gives files.now) C.places C.breaks C.lists C.converts C.unconverted C.passes C.blocks C.judges C.misjudges (F.ticks files.now) (map string_bytes arguments.now) HELP.now VERSION.now
         (R.remaining input.old) (R.remaining input.new) (W.contents output.old) (W.contents output.new) result }
 {
     let command = parse(alloc, arguments)?;
@@ -427,7 +444,7 @@ pub fn run<S: Pages<Kind, PageError>, C: Calls, F: Files + Clock, R: Read, W: Wr
 ) -> Ended
     ensures ran { (outcome : Outcome) × (result.status ≡ status_of outcome)
         × IsLineWritten (E.contents errors.old) (E.contents errors.new) result.told outcome
-        × IsRunOf S.tells C.opens (F.gives files.now) C.places C.breaks C.lists C.converts C.unconverted C.passes C.blocks C.judges C.misjudges (F.ticks files.now) (map string_bytes arguments.now) HELP.now
+        × IsRunOf S.tells C.opens (F.gives files.now) C.places C.breaks C.lists C.converts C.unconverted C.passes C.blocks C.judges C.misjudges (F.ticks files.now) (map string_bytes arguments.now) HELP.now VERSION.now
         (R.remaining input.old) (R.remaining input.new) (W.contents output.old) (W.contents output.new) outcome }
 {
     match perform::<S, C, F, R, W>(alloc, arguments, files, input, output) {

@@ -1,25 +1,32 @@
 //! Why a run is rejected.
 
 ghost use Rattle.std.specs.IoError.{error_kind};
-ghost use Rattle.std.specs.Prelude.{◌≡◌, ◌≢◌, ◌++◌, IfOk, OnOk};
+ghost use Rattle.std.specs.Prelude.{◌≡◌, ◌≢◌, ◌++◌, codes, IfOk, OnOk};
 ghost use Rattle.std.specs.declared.io.ErrorKind.TheVariants as kinds;
 ghost use Rattle.jolmurig.specs.declared.failure.Failure.TheVariants as failures;
-ghost use Rattle.jolmurig.specs.Failures.{breaker, kind_of_message, line_of, of_input, own_line, place, place_text, placed, reason, rule_of, rule_of_proxy, status_of_failure, subject, undecided_reason, undecided_subject};
+ghost use Rattle.krb_show_text.specs.Text.{escaped};
+ghost use Rattle.krb_show_text.specs.declared.escape.Style.TheVariants as style;
+ghost use Rattle.jolmurig.specs.Files.{unread_reason};
+ghost use Rattle.jolmurig.specs.Failures.{breaker, file_text, kind_of_message, line_of, of_input, mark, option_of, own_line, place, place_text, placed, reason, rule_of, rule_of_proxy, status_of_failure, subject, undecided_reason, undecided_subject};
 
+use crate::fault::push_fault;
+use crate::files::{Purpose, Unread, UnreadFile};
+use jolmurig_command::{Fault, TypeName};
 use krb_file_tools::convert::ConvertError;
 use krb_files::keytab::KeytabError;
 use krb_input::InputError;
 use krb_kdc_proxy::{MessageKind, ProxyError};
 use krb_show_any::{Kind, PageError, name_of_kind};
+use krb_show_text::{Style, push_escaped};
 use std::alloc::{AllocError, Global};
 use std::io;
 
 /// Why nothing is decided of a token.
-#[derive(Clone, Copy, PartialEq, Eq)]
-pub enum Undecided {
-    /// The file of the option `--keytab` could not be read.
-    KeytabFile,
-    /// It is no keytab: its first error.
+#[derive(Drop)]
+pub enum Undecided<'a> {
+    /// A file is not read: the input, or that of the option `--keytab`.
+    NoFile(UnreadFile<'a>),
+    /// The file of the option `--keytab` is no keytab: its first error.
     Keytab(KeytabError),
     /// The clock could not be read.
     Clock,
@@ -27,7 +34,7 @@ pub enum Undecided {
     NotBase64,
     /// An allocation failed.
     Memory,
-    /// The input could not be read.
+    /// Standard input could not be read.
     Read,
     /// The output could not be written.
     Write,
@@ -35,21 +42,21 @@ pub enum Undecided {
 
 /// Why a run is rejected.
 #[derive(Drop)]
-pub enum Failure {
-    /// The arguments are no command.
-    Arguments,
+pub enum Failure<'a> {
+    /// The arguments are no command: what is wrong with them.
+    Arguments(Fault<'a>),
+    /// An argument is no text.
+    NotText,
+    /// No type has the name that is asked for.
+    NoType(TypeName<'a>),
     /// The text of an option `--key` is no key.
     Key,
-    /// The file of an option `--key-file` could not be read.
-    KeyFile,
-    /// The text of such a file is no key.
+    /// A file is not read.
+    NoFile(UnreadFile<'a>),
+    /// The text of the file of an option `--key-file` is no key.
     KeyInFile,
-    /// The file of an option `--keytab` could not be read.
-    KeytabFile,
-    /// Such a file is no keytab: its first error.
+    /// The file of an option `--keytab` is no keytab: its first error.
     Keytab(KeytabError),
-    /// The file of an option `--password-file` could not be read.
-    PasswordFile,
     /// The input begins as PEM or as a header of HTTP, and what follows is no base64.
     NotBase64,
     /// The octets begin as no kind that is told by first octets.
@@ -77,12 +84,12 @@ pub enum Failure {
     /// The text of the option `--bindings` is not 16 octets.
     Bindings,
     /// Nothing is decided of a token.
-    Undecided(Undecided),
+    Undecided(Undecided<'a>),
     /// The token is refused; the output says why.
     Refused,
     /// An allocation failed.
     Memory,
-    /// The input could not be read.
+    /// Standard input could not be read.
     Read,
     /// The output could not be written.
     Write,
@@ -178,18 +185,59 @@ fn rule_of_proxy(rule: &ProxyError) -> &'static str
     }
 }
 
-impl Undecided {
-    /// What it is of.
-    fn subject(&self) -> &'static str
-        ensures { result.now ≡ undecided_subject self.now }
+/// Why a file is not read.
+fn unread_reason(why: Unread) -> &'static str
+    ensures { result.now ≡ unread_reason why }
+{
+    match why {
+        Unread::NoFile => "no such file",
+        Unread::Directory => "is a directory",
+        Unread::Denied => "permission denied",
+        Unread::Other => "could not be read",
+    }
+}
+
+/// The option that names a file for a purpose, with a blank; nothing of the input.
+fn option_of(purpose: Purpose) -> &'static str
+    ensures { result.now ≡ option_of purpose }
+{
+    match purpose {
+        Purpose::Input => "",
+        Purpose::Keytab => "--keytab ",
+        Purpose::KeyFile => "--key-file ",
+        Purpose::PasswordFile => "--password-file ",
+    }
+}
+
+/// Appends the name of a file, behind the option that has it.
+fn push_file(line: &mut Vec<u8>, file: &UnreadFile) -> Result<(), AllocError>
+    ensures { OnOk result (line.new.items ≡ line.old.items ++ file_text file.now) }
+{
+    line.extend_from_slice(option_of(file.purpose).as_bytes())?;
+    push_escaped(line, Style::Plain, file.name.as_bytes())
+}
+
+/// Appends that no type has this name.
+fn push_no_type(line: &mut Vec<u8>, name: &TypeName) -> Result<(), AllocError>
+    ensures { OnOk result (line.new.items ≡ line.old.items ++ codes "--as: no type " ++ escaped style.Plain name.now) }
+{
+    line.extend_from_slice(b"--as: no type ")?;
+    push_escaped(line, Style::Plain, name.text.as_bytes())
+}
+
+impl<'a> Undecided<'a> {
+    /// Appends what it is of.
+    fn push_subject(&self, line: &mut Vec<u8>) -> Result<(), AllocError>
+        ensures { OnOk result (line.new.items ≡ line.old.items ++ undecided_subject self.now) }
     {
         match self {
-            Undecided::KeytabFile | Undecided::Keytab(_) => "--keytab",
-            Undecided::Clock => "clock",
-            Undecided::NotBase64 => "base64",
-            Undecided::Memory => "memory",
-            Undecided::Read => "reading",
-            Undecided::Write => "writing",
+            Undecided::NoFile(file) => push_file(line, file),
+            Undecided::Keytab(_) => line.extend_from_slice(b"--keytab"),
+            Undecided::Clock => line.extend_from_slice(b"clock"),
+            Undecided::NotBase64 => line.extend_from_slice(b"base64"),
+            Undecided::Memory => line.extend_from_slice(b"memory"),
+            Undecided::Read => line.extend_from_slice(b"reading"),
+            Undecided::Write => line.extend_from_slice(b"writing"),
         }
     }
 
@@ -198,7 +246,7 @@ impl Undecided {
         ensures { result.now ≡ undecided_reason self.now }
     {
         match self {
-            Undecided::KeytabFile => "the file could not be read",
+            Undecided::NoFile(file) => unread_reason(file.why),
             Undecided::Keytab(why) => PageError::Keytab(*why).reason(),
             Undecided::Clock => "the clock could not be read; --time names a time",
             Undecided::NotBase64 =>
@@ -210,50 +258,52 @@ impl Undecided {
     }
 }
 
-impl Failure {
+impl<'a> Failure<'a> {
     /// The status with which the program ends: 2 where the arguments are no command or name no key, time, skew, server, realm or channel
     /// bindings, and where nothing is decided of a token; else 1.
     pub fn status(&self) -> u8
         ensures { result ≡ status_of_failure self.now }
     {
         match self {
-            Failure::Arguments | Failure::Key => 2,
-            Failure::Time | Failure::Skew | Failure::Server | Failure::Realm => 2,
-            Failure::Bindings | Failure::Undecided(_) => 2,
+            Failure::Arguments(_) | Failure::NotText | Failure::NoType(_) => 2,
+            Failure::Key | Failure::Time | Failure::Skew | Failure::Server => 2,
+            Failure::Realm | Failure::Bindings | Failure::Undecided(_) => 2,
             _ => 1,
         }
     }
 
-    /// What the failure is of.
-    fn subject(&self) -> &'static str
-        ensures { result.now ≡ subject self.now }
+    /// Appends what the failure is of.
+    fn push_subject(&self, line: &mut Vec<u8>) -> Result<(), AllocError>
+        ensures { OnOk result (line.new.items ≡ line.old.items ++ subject self.now) }
     {
         match self {
-            Failure::Arguments => "wrong arguments",
-            Failure::Key => "--key",
-            Failure::KeyFile | Failure::KeyInFile => "--key-file",
-            Failure::KeytabFile | Failure::Keytab(_) => "--keytab",
-            Failure::PasswordFile => "--password-file",
-            Failure::NotBase64 => "base64",
-            Failure::UnknownKind => "unknown kind",
-            Failure::NoEntries => "list",
-            Failure::Convert(_) => "convert",
-            Failure::Proxy(rule) => breaker(rule),
+            Failure::NoFile(file) => push_file(line, file),
+            Failure::Undecided(why) => why.push_subject(line),
+            Failure::Arguments(fault) => push_fault(line, fault),
+            Failure::NotText => line.extend_from_slice(b"an argument is not UTF-8"),
+            Failure::NoType(name) => push_no_type(line, name),
+            Failure::Key => line.extend_from_slice(b"--key"),
+            Failure::KeyInFile => line.extend_from_slice(b"--key-file"),
+            Failure::Keytab(_) => line.extend_from_slice(b"--keytab"),
+            Failure::NotBase64 => line.extend_from_slice(b"base64"),
+            Failure::UnknownKind => line.extend_from_slice(b"unknown kind"),
+            Failure::NoEntries => line.extend_from_slice(b"list"),
+            Failure::Convert(_) => line.extend_from_slice(b"convert"),
+            Failure::Proxy(rule) => line.extend_from_slice(breaker(rule).as_bytes()),
             Failure::Octets {
                 kind,
                 why: _,
                 place: _,
-            } => name_of_kind(*kind),
-            Failure::Time => "--time",
-            Failure::Skew => "--skew",
-            Failure::Server => "--server",
-            Failure::Realm => "--realm",
-            Failure::Bindings => "--bindings",
-            Failure::Undecided(why) => why.subject(),
-            Failure::Refused => "refused",
-            Failure::Memory => "memory",
-            Failure::Read => "reading",
-            Failure::Write => "writing",
+            } => line.extend_from_slice(name_of_kind(*kind).as_bytes()),
+            Failure::Time => line.extend_from_slice(b"--time"),
+            Failure::Skew => line.extend_from_slice(b"--skew"),
+            Failure::Server => line.extend_from_slice(b"--server"),
+            Failure::Realm => line.extend_from_slice(b"--realm"),
+            Failure::Bindings => line.extend_from_slice(b"--bindings"),
+            Failure::Refused => line.extend_from_slice(b"refused"),
+            Failure::Memory => line.extend_from_slice(b"memory"),
+            Failure::Read => line.extend_from_slice(b"reading"),
+            Failure::Write => line.extend_from_slice(b"writing"),
         }
     }
 
@@ -262,13 +312,10 @@ impl Failure {
         ensures { result.now ≡ reason self.now }
     {
         match self {
-            Failure::Arguments =>
-                "usage: jolmurig show [OPTION].. [FILE], jolmurig check --as TYPE [FILE], jolmurig list [FILE], jolmurig convert kirbi|ccache [FILE], jolmurig proxy request|reply [FILE] or jolmurig accept --keytab FILE [OPTION].. [FILE]; see jolmurig --help",
+            Failure::Arguments(_) | Failure::NotText | Failure::NoType(_) => "see jolmurig --help",
             Failure::Key =>
                 "a key is ETYPE:HEX, where ETYPE is 16 to 20 or the name of such an encryption type, and HEX the octets of a key of its length",
-            Failure::KeyFile | Failure::KeytabFile | Failure::PasswordFile => {
-                "the file could not be read"
-            }
+            Failure::NoFile(file) => unread_reason(file.why),
             Failure::KeyInFile =>
                 "the file holds no key ETYPE:HEX, where ETYPE is 16 to 20 or the name of such an encryption type, and HEX the octets of a key of its length",
             Failure::Keytab(why) => PageError::Keytab(*why).reason(),
@@ -299,6 +346,16 @@ impl Failure {
         }
     }
 
+    /// What stands between these two.
+    fn mark(&self) -> &'static str
+        ensures { result.now ≡ mark self.now }
+    {
+        match self {
+            Failure::Arguments(_) | Failure::NotText | Failure::NoType(_) => "; ",
+            _ => ": ",
+        }
+    }
+
     /// How many octets stand before the error, if that is known.
     fn place(&self) -> Option<usize>
         ensures { result ≡ place self.now }
@@ -319,8 +376,8 @@ impl Failure {
     {
         let mut line = Vec::new(alloc);
         line.extend_from_slice(b"jolmurig: ")?;
-        line.extend_from_slice(self.subject().as_bytes())?;
-        line.extend_from_slice(b": ")?;
+        self.push_subject(&mut line)?;
+        line.extend_from_slice(self.mark().as_bytes())?;
         line.extend_from_slice(self.reason().as_bytes())?;
         push_place(&mut line, alloc, self.place())?;
         line.push(b'\n')?;
@@ -338,18 +395,18 @@ impl Failure {
     }
 }
 
-impl From<AllocError> for Failure {
+impl<'a> From<AllocError> for Failure<'a> {
     ghost from_gives = { λ _ e. e ≡ failures.Memory };
 
-    fn from(_error: AllocError) -> Failure {
+    fn from(_error: AllocError) -> Failure<'a> {
         Failure::Memory
     }
 }
 
-impl From<InputError> for Failure {
+impl<'a> From<InputError> for Failure<'a> {
     ghost from_gives = { of_input };
 
-    fn from(error: InputError) -> Failure {
+    fn from(error: InputError) -> Failure<'a> {
         match error {
             InputError::NotBase64 => Failure::NotBase64,
             InputError::OutOfMemory => Failure::Memory,
@@ -358,13 +415,13 @@ impl From<InputError> for Failure {
 }
 
 /// The error of arguments that could not be had: an allocation failure, or an argument that is no text and so of no command.
-pub fn arguments_failure(error: io::Error) -> Failure
+pub fn arguments_failure(error: io::Error) -> Failure<'static>
     ensures memory { error_kind error ≡ kinds.OutOfMemory → result ≡ failures.Memory }
-    ensures other { error_kind error ≢ kinds.OutOfMemory → result ≡ failures.Arguments }
+    ensures other { error_kind error ≢ kinds.OutOfMemory → result ≡ failures.NotText }
 {
     if error.kind() == io::ErrorKind::OutOfMemory {
         Failure::Memory
     } else {
-        Failure::Arguments
+        Failure::NotText
     }
 }

@@ -1,4 +1,7 @@
-//! The help.
+//! The help and the version.
+
+/// What `--version` writes.
+pub const VERSION: &str = "jolmurig 0.2.0\n";
 
 /// What `--help` writes.
 pub const HELP: &str =
@@ -12,6 +15,7 @@ usage:
     jolmurig proxy request|reply [FILE]
     jolmurig accept --keytab FILE [OPTION].. [FILE]
     jolmurig --help
+    jolmurig --version
 
 show       the type of the octets, and what they hold; behind that a warning for each thing that breaks a rule of its standard,
            as those of check; of a PAC in a ticket or an authenticator that nobody checks, `unchecked` says so

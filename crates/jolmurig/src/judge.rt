@@ -13,11 +13,11 @@ ghost use Rattle.jolmurig.specs.declared.failure.Undecided.TheVariants as undeci
 use crate::calls::Calls;
 use crate::clock::Clock;
 use crate::failure::{Failure, Undecided};
-use crate::files::{Files, octets_of_file};
+use crate::files::{Files, Purpose, octets_of_file};
 use crate::input::read_octets;
 use crate::terms::terms_of;
 use hex::FromHexError;
-use jolmurig_command::Accept;
+use jolmurig_command::{Accept, Fault};
 use krb_accept::{PacCheck, Settings};
 use krb_accept_report::{Question, Report, ReportError, seconds_of_text};
 use krb_accept_rules::Terms;
@@ -38,7 +38,7 @@ fn seconds_in(text: &str) -> Option<i64>
 }
 
 /// The seconds since 1970 that a text names as 2026-01-02T03:04:05Z.
-fn time_in(alloc: Global, text: &str) -> Result<Option<i64>, Failure>
+fn time_in(alloc: Global, text: &str) -> Result<Option<i64>, Failure<'static>>
     ensures found { IfOk result (λ found. MatchOption found ((seconds : ℤ) → IsTimeOf text.now seconds → ⊥) (IsTimeOf text.now)) }
     ensures rejected { IfErr result (λ e. e ≡ failure.Memory) }
 {
@@ -47,7 +47,7 @@ fn time_in(alloc: Global, text: &str) -> Result<Option<i64>, Failure>
 }
 
 /// The time that a text names, in seconds since 1970: these in decimal, or as 2026-01-02T03:04:05Z.
-fn moment_of(alloc: Global, text: &str) -> Result<i64, Failure>
+fn moment_of(alloc: Global, text: &str) -> Result<i64, Failure<'static>>
     ensures found { IfOk result (IsMoment text.now) }
     ensures rejected { IfErr result (λ e. (e ≡ failure.Memory) ⊎ ((e ≡ failure.Time) × ((seconds : ℤ) → IsMoment text.now seconds → ⊥))) }
 {
@@ -62,7 +62,7 @@ fn moment_of(alloc: Global, text: &str) -> Result<i64, Failure>
 }
 
 /// The time that is named, or that of the clock.
-fn clock_of<F: Clock>(alloc: Global, files: &F, time: Option<&str>) -> Result<i64, Failure>
+fn clock_of<F: Clock>(alloc: Global, files: &F, time: Option<&str>) -> Result<i64, Failure<'static>>
     ensures found { IfOk result (IsClock (F.ticks files.now) (option_copied time.entry)) }
     ensures rejected { IfErr result (λ e. (e ≡ failure.Memory) ⊎ IsNoClock (F.ticks files.now) (option_copied time.entry) e) }
 {
@@ -76,7 +76,7 @@ fn clock_of<F: Clock>(alloc: Global, files: &F, time: Option<&str>) -> Result<i6
 }
 
 /// The 16 octets that a text names in hexadecimal.
-fn octets_of(alloc: Global, text: &str) -> Result<[u8; 16], Failure>
+fn octets_of(alloc: Global, text: &str) -> Result<[u8; 16], Failure<'static>>
     ensures found { IfOk result (HasBindings text.now) }
     ensures rejected { IfErr result (λ e. (e ≡ failure.Memory) ⊎ ((e ≡ failure.Bindings) × HasNoBindings text.now)) }
 {
@@ -92,7 +92,7 @@ fn octets_of(alloc: Global, text: &str) -> Result<[u8; 16], Failure>
 }
 
 /// The channel bindings that are named, if they are.
-fn bindings_of(alloc: Global, bindings: Option<&str>) -> Result<Option<[u8; 16]>, Failure>
+fn bindings_of(alloc: Global, bindings: Option<&str>) -> Result<Option<[u8; 16]>, Failure<'static>>
     ensures found { IfOk result (AreBindings (option_copied bindings.entry)) }
     ensures rejected { IfErr result (λ e. (e ≡ failure.Memory) ⊎ AreNoBindings (option_copied bindings.entry) e) }
 {
@@ -103,7 +103,7 @@ fn bindings_of(alloc: Global, bindings: Option<&str>) -> Result<Option<[u8; 16]>
 }
 
 /// What the service asks of tokens.
-fn settings_of(alloc: Global, asked: &Accept) -> Result<Settings, Failure>
+fn settings_of(alloc: Global, asked: &Accept) -> Result<Settings, Failure<'static>>
     ensures found { IfOk result (AreSettings asked.now) }
     ensures rejected { IfErr result (λ e. (e ≡ failure.Memory) ⊎ AreNoBindings asked.now.bindings e) }
 {
@@ -117,16 +117,17 @@ fn settings_of(alloc: Global, asked: &Accept) -> Result<Settings, Failure>
 }
 
 /// The octets of the keytab that is named.
-fn keytab_of<F: Files>(alloc: Global, files: &F, keytab: Option<&str>) -> Result<Vec<u8>, Failure>
+fn keytab_of<'a, F: Files>(
+    alloc: Global,
+    files: &F,
+    keytab: Option<&'a str>,
+) -> Result<Vec<u8>, Failure<'a>>
     ensures found { IfOk result (λ octets. IsKeytab (F.gives files.now) (option_copied keytab.entry) octets.items) }
     ensures rejected { IfErr result (λ e. (e ≡ failure.Memory) ⊎ IsNoKeytab (F.gives files.now) (option_copied keytab.entry) e) }
 {
     match keytab {
-        Some(name) => {
-            let unreadable = Failure::Undecided(Undecided::KeytabFile);
-            octets_of_file(alloc, files, name, unreadable)
-        }
-        None => Err(Failure::Arguments),
+        Some(name) => octets_of_file(alloc, files, Purpose::Keytab, name),
+        None => Err(Failure::Arguments(Fault::NoKeytab)),
     }
 }
 
@@ -139,7 +140,11 @@ struct Means {
 }
 
 /// What the service that is asked about has beside its terms.
-fn means_of<F: Files + Clock>(alloc: Global, files: &F, asked: &Accept) -> Result<Means, Failure>
+fn means_of<'a, F: Files + Clock>(
+    alloc: Global,
+    files: &F,
+    asked: &Accept<'a>,
+) -> Result<Means, Failure<'a>>
     ensures found { IfOk result (λ m. AreMeans (F.gives files.now) (F.ticks files.now) asked.now m.settings m.clock m.keytab.items) }
     ensures rejected { IfErr result (λ e. (e ≡ failure.Memory) ⊎ AreNoMeans (F.gives files.now) (F.ticks files.now) asked.now e) }
 {
@@ -161,11 +166,11 @@ struct Service {
 }
 
 /// The service that is asked about.
-fn service_of<F: Files + Clock>(
+fn service_of<'a, F: Files + Clock>(
     alloc: Global,
     files: &F,
-    asked: &Accept,
-) -> Result<Service, Failure>
+    asked: &Accept<'a>,
+) -> Result<Service, Failure<'a>>
     ensures found { IfOk result (λ s. IsService (F.gives files.now) (F.ticks files.now) asked.now
         s.terms s.means.settings s.means.clock s.means.keytab.items) }
     ensures rejected { IfErr result (λ e. (e ≡ failure.Memory) ⊎ IsNoService (F.gives files.now) (F.ticks files.now) asked.now e) }
@@ -181,7 +186,7 @@ fn service_of<F: Files + Clock>(
 }
 
 /// The failure that an error of a report is.
-fn failure_of_report(error: ReportError) -> Failure
+fn failure_of_report(error: ReportError) -> Failure<'static>
     ensures { result ≡ failure_of_report error }
 {
     match error {
@@ -191,20 +196,21 @@ fn failure_of_report(error: ReportError) -> Failure
 }
 
 /// The failure, where nothing is decided.
-pub fn undecided_of(failure: Failure) -> Failure
-    ensures { result ≡ undecided_of failure }
+pub fn undecided_of<'a>(failure: Failure<'a>) -> Failure<'a>
+    ensures { result ≡ undecided_of failure.entry }
 {
     match failure {
         Failure::Memory => Failure::Undecided(Undecided::Memory),
         Failure::NotBase64 => Failure::Undecided(Undecided::NotBase64),
         Failure::Read => Failure::Undecided(Undecided::Read),
         Failure::Write => Failure::Undecided(Undecided::Write),
+        Failure::NoFile(file) => Failure::Undecided(Undecided::NoFile(file)),
         other => other,
     }
 }
 
 /// What is said of octets.
-fn said_of<C: Calls>(alloc: Global, question: &Question) -> Result<Report, Failure>
+fn said_of<C: Calls>(alloc: Global, question: &Question) -> Result<Report, Failure<'static>>
     ensures said { IfOk result (λ r. C.judges question.now r.accepts r.line.items) }
     ensures none { IfErr result (λ e. (why : ReportError) × C.misjudges question.now why × (e ≡ failure_of_report why)) }
 {
@@ -215,13 +221,13 @@ fn said_of<C: Calls>(alloc: Global, question: &Question) -> Result<Report, Failu
 }
 
 /// What a service says of the token of a file or the input.
-fn judge_by<C: Calls, F: Files, R: Read>(
+fn judge_by<'a, C: Calls, F: Files, R: Read>(
     alloc: Global,
     service: &Service,
-    file: Option<&str>,
+    file: Option<&'a str>,
     files: &F,
     input: &mut R,
-) -> Result<Report, Failure>
+) -> Result<Report, Failure<'a>>
     ensures said { IfOk result (λ r. (octets : List ℕ) × AreRead (F.gives files.now) (option_copied file.entry) (R.remaining input.old) octets
         × C.judges (question_of service.now.means.keytab.items octets service.now.means.clock service.now.terms service.now.means.settings)
         r.accepts r.line.items) }
@@ -244,12 +250,12 @@ fn judge_by<C: Calls, F: Files, R: Read>(
 }
 
 /// What the service that is asked about says of the token of a file or the input.
-pub fn judge<C: Calls, F: Files + Clock, R: Read>(
+pub fn judge<'a, C: Calls, F: Files + Clock, R: Read>(
     alloc: Global,
-    asked: &Accept,
+    asked: &Accept<'a>,
     files: &F,
     input: &mut R,
-) -> Result<Report, Failure>
+) -> Result<Report, Failure<'a>>
     ensures said { IfOk result (λ r. IsJudged (F.gives files.now) (F.ticks files.now) C.judges asked.now (R.remaining input.old) r.accepts r.line.items) }
     ensures rejected { IfErr result (IsNotJudged (F.gives files.now) (F.ticks files.now) C.misjudges asked.now (R.remaining input.old) (R.remaining input.new)) }
     ensures left { IsLeft asked.now.file (R.remaining input.old) (R.remaining input.new) }

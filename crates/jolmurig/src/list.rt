@@ -22,7 +22,7 @@ fn entries_of(octets: &[u8]) -> Option<Entries>
 }
 
 /// The failure that an error of a list is.
-fn failure_of_list(error: ListError) -> Failure
+fn failure_of_list(error: ListError) -> Failure<'static>
     ensures { result ≡ failure_of_list error }
 {
     match error {
@@ -41,7 +41,7 @@ fn failure_of_list(error: ListError) -> Failure
 }
 
 /// The list of the entries that octets are.
-pub fn list_of<C: Calls>(alloc: Global, octets: &[u8]) -> Result<Vec<u8>, Failure>
+pub fn list_of<C: Calls>(alloc: Global, octets: &[u8]) -> Result<Vec<u8>, Failure<'static>>
     ensures found { IfOk result (λ text. IsListed C.lists octets.now text.items) }
     ensures rejected { IfErr result (IsUnlisted octets.now) }
 {

@@ -8,6 +8,7 @@ mod clock;
 mod convert;
 mod engine;
 mod failure;
+mod fault;
 mod files;
 mod help;
 mod input;

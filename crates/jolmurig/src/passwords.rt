@@ -6,7 +6,7 @@ ghost use Rattle.jolmurig.specs.Passwords.{ArePasswords, HasNoPassword, first_li
 ghost use Rattle.jolmurig.specs.declared.failure.Failure.TheVariants as failure;
 
 use crate::failure::Failure;
-use crate::files::{Files, octets_of_file};
+use crate::files::{Files, Purpose, octets_of_file};
 use jolmurig_command::FileName;
 use std::alloc::{AllocError, Global};
 
@@ -38,11 +38,15 @@ fn first_line(octets: &[u8]) -> &[u8]
 }
 
 /// The password that a file holds.
-fn password_of_file<F: Files>(alloc: Global, files: &F, name: &str) -> Result<Vec<u8>, Failure>
+fn password_of_file<'a, F: Files>(
+    alloc: Global,
+    files: &F,
+    name: &'a str,
+) -> Result<Vec<u8>, Failure<'a>>
     ensures found { IfOk result (λ password. password_gives (F.gives files.now) name.now password.items) }
     ensures rejected { IfErr result (λ e. (e ≡ failure.Memory) ⊎ HasNoPassword (F.gives files.now) (name.now ∷ []) e) }
 {
-    let octets = octets_of_file(alloc, files, name, Failure::PasswordFile)?;
+    let octets = octets_of_file(alloc, files, Purpose::PasswordFile, name)?;
     Ok(Vec::from_slice(alloc, first_line(&octets))?)
 }
 
@@ -55,12 +59,12 @@ fn push(password: Vec<u8>, passwords: &mut Vec<Vec<u8>>) -> Result<(), AllocErro
 }
 
 /// Appends the password that a file holds.
-fn push_password<F: Files>(
+fn push_password<'a, F: Files>(
     alloc: Global,
     files: &F,
-    name: &str,
+    name: &'a str,
     passwords: &mut Vec<Vec<u8>>,
-) -> Result<(), Failure>
+) -> Result<(), Failure<'a>>
     ensures found { OnOk result (pushes (password_gives (F.gives files.now) name.now)
         (map (λ p. p.items) passwords.old.items) (map (λ p. p.items) passwords.new.items)) }
     ensures rejected { IfErr result (λ e. (e ≡ failure.Memory) ⊎ HasNoPassword (F.gives files.now) (name.now ∷ []) e) }
@@ -71,11 +75,11 @@ fn push_password<F: Files>(
 }
 
 /// The passwords that files hold, in their order.
-pub fn passwords_of_files<F: Files>(
+pub fn passwords_of_files<'a, F: Files>(
     alloc: Global,
     files: &F,
-    names: &[FileName],
-) -> Result<Vec<Vec<u8>>, Failure>
+    names: &[FileName<'a>],
+) -> Result<Vec<Vec<u8>>, Failure<'a>>
     ensures found { IfOk result (λ passwords. ArePasswords (F.gives files.now) names.now (map (λ p. p.items) passwords.items)) }
     ensures rejected { IfErr result (λ e. (e ≡ failure.Memory) ⊎ HasNoPassword (F.gives files.now) names.now e) }
 {

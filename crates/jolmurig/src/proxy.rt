@@ -122,7 +122,7 @@ fn der_error(error: MessageError) -> Asn1DerError
 }
 
 /// The failure that an error of a proxy is.
-fn failure_of_proxy(error: ProxyError) -> Failure
+fn failure_of_proxy(error: ProxyError) -> Failure<'static>
     ensures { result ≡ failure_of_proxy error }
 {
     match error {
@@ -142,7 +142,11 @@ fn failure_of_proxy(error: ProxyError) -> Failure
 }
 
 /// What a proxy passes on of the octets.
-pub fn passed_of<C: Calls>(alloc: Global, way: Direction, octets: &[u8]) -> Result<Passed, Failure>
+pub fn passed_of<C: Calls>(
+    alloc: Global,
+    way: Direction,
+    octets: &[u8],
+) -> Result<Passed, Failure<'static>>
     ensures found { IfOk result (λ p. C.passes way octets.now p.octets.items p.line.items) }
     ensures rejected { IfErr result (λ e. (e ≡ failure.Memory) ⊎ IsBlocked C.blocks way octets.now e) }
 {

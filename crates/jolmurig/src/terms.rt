@@ -16,7 +16,7 @@ use std::alloc::{AllocError, Global};
 const SKEW: u32 = 300;
 
 /// The skew that is named, or the usual one.
-fn skew_of(skew: Option<&str>) -> Result<u32, Failure>
+fn skew_of(skew: Option<&str>) -> Result<u32, Failure<'static>>
     ensures found { IfOk result (IsSkew (option_copied skew.entry)) }
     ensures rejected { IfErr result (λ e. (e ≡ failure.Skew) × ((seconds : ℕ) → IsSkew (option_copied skew.entry) seconds → ⊥)) }
 {
@@ -41,7 +41,7 @@ fn push<T: Drop>(list: &mut Vec<T>, one: T) -> Result<(), AllocError>
 }
 
 /// The server that a text is of.
-fn server_in(alloc: Global, text: &str) -> Result<ServerName, Failure>
+fn server_in(alloc: Global, text: &str) -> Result<ServerName, Failure<'static>>
     ensures found { IfOk result (IsServer text.now) }
     ensures rejected { IfErr result (λ e. (e ≡ failure.Memory) ⊎ ((e ≡ failure.Server) × IsNoServer text.now)) }
 {
@@ -52,7 +52,7 @@ fn server_in(alloc: Global, text: &str) -> Result<ServerName, Failure>
 }
 
 /// The servers that texts are of, in their order.
-fn servers_of(alloc: Global, texts: &[NameText]) -> Result<Vec<ServerName>, Failure>
+fn servers_of(alloc: Global, texts: &[NameText]) -> Result<Vec<ServerName>, Failure<'static>>
     ensures found { IfOk result (λ servers. AreOfTexts IsServer texts.now servers.items) }
     ensures rejected { IfErr result (λ e. (e ≡ failure.Memory) ⊎ ((e ≡ failure.Server) × HasTextOfNone IsServer texts.now)) }
 {
@@ -65,7 +65,7 @@ fn servers_of(alloc: Global, texts: &[NameText]) -> Result<Vec<ServerName>, Fail
 }
 
 /// The realm that a text is.
-fn realm_in(alloc: Global, text: &str) -> Result<Realm, Failure>
+fn realm_in(alloc: Global, text: &str) -> Result<Realm, Failure<'static>>
     ensures found { IfOk result (λ realm. IsRealm text.now realm) }
     ensures rejected { IfErr result (λ e. (e ≡ failure.Memory) ⊎ ((e ≡ failure.Realm) × IsNoRealm text.now)) }
 {
@@ -76,7 +76,7 @@ fn realm_in(alloc: Global, text: &str) -> Result<Realm, Failure>
 }
 
 /// The realms that texts are, in their order.
-fn realms_of(alloc: Global, texts: &[NameText]) -> Result<Vec<Realm>, Failure>
+fn realms_of(alloc: Global, texts: &[NameText]) -> Result<Vec<Realm>, Failure<'static>>
     ensures found { IfOk result (λ realms. AreOfTexts IsRealm texts.now realms.items) }
     ensures rejected { IfErr result (λ e. (e ≡ failure.Memory) ⊎ ((e ≡ failure.Realm) × HasTextOfNone IsRealm texts.now)) }
 {
@@ -89,7 +89,7 @@ fn realms_of(alloc: Global, texts: &[NameText]) -> Result<Vec<Realm>, Failure>
 }
 
 /// The terms that are asked about.
-pub fn terms_of(alloc: Global, asked: &Accept) -> Result<Terms, Failure>
+pub fn terms_of(alloc: Global, asked: &Accept) -> Result<Terms, Failure<'static>>
     ensures found { IfOk result (AreTerms asked.now) }
     ensures rejected { IfErr result (λ e. (e ≡ failure.Memory) ⊎ AreNoTerms asked.now e) }
 {

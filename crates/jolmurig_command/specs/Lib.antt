@@ -1,4 +1,5 @@
 pub mod Words
+pub mod Faults
 pub mod Accepts
 pub mod AcceptArguments
 pub mod Shows

@@ -1,18 +1,20 @@
 //! The command that arguments are.
 
-ghost use Rattle.std.specs.Prelude.{◌≡◌, ◌≤◌, ◌∷◌, false, length, map, None, Some, IfOk, MatchOption};
+ghost use Rattle.std.specs.Prelude.{◌≡◌, ◌≤◌, ◌∷◌, false, length, map, Ok, Err, IfOk, MatchResult};
 ghost use Rattle.std.specs.Option.{option_copied};
 ghost use Rattle.std.specs.String.{string_bytes};
 ghost use Rattle.jolmurig_command.specs.Arguments.{asked_by, begins_with_help, check_of, command_of, conversion_of, direction_of, format_of, is_valued};
 ghost use Rattle.jolmurig_command.specs.Arguments.{of_operand, operand_of, options_of, proxy_of, source_kind, with_file, with_flag, with_output, with_source};
-ghost use Rattle.jolmurig_command.specs.Arguments.{with_password_file, with_tree, with_type, with_value};
+ghost use Rattle.jolmurig_command.specs.Arguments.{output_fault, with_password_file, with_tree, with_type, with_value};
 ghost use Rattle.jolmurig_command.specs.Shows.{nothing_asked};
 ghost use Rattle.jolmurig_command.specs.Words.{file_name, is_help, is_word};
 ghost use Rattle.jolmurig_command.specs.declared.command.Command.TheVariants as command;
+ghost use Rattle.jolmurig_command.specs.declared.fault.Fault.TheVariants as fault;
 
 use crate::command::{
     Command, Direction, FileName, Format, Operand, Output, Show, Source, SourceKind, TypeName,
 };
+use crate::fault::{Fault, Word, stray, unknown_command};
 use crate::parse_accept::accept_of;
 use std::alloc::{AllocError, Global};
 
@@ -31,29 +33,43 @@ pub(crate) fn is_help(argument: &str) -> bool
 }
 
 /// As a tree, where neither this nor a type was asked for.
-fn with_tree<'a>(show: Show<'a>) -> Option<Show<'a>>
+fn with_tree<'a>(show: Show<'a>) -> Result<Show<'a>, Fault<'a>>
     ensures { result ≡ with_tree show.entry }
 {
-    if show.type_name.is_some() || show.is_tree {
-        return None;
+    if show.type_name.is_some() {
+        return Err(Fault::TypeAndTree);
     }
-    Some(Show {
+    if show.is_tree {
+        return Err(Fault::Twice(Word { text: "--tree" }));
+    }
+    Ok(Show {
         is_tree: true,
         ..show
     })
 }
 
+/// What is wrong where an output is asked for, and this one was before.
+fn output_fault(form: Output, other: Output) -> Fault<'static>
+    ensures { result ≡ output_fault form other }
+{
+    match (form, other) {
+        (Output::Json, Output::Json) => Fault::Twice(Word { text: "--json" }),
+        (Output::Type, Output::Type) => Fault::Twice(Word { text: "--type" }),
+        _ => Fault::JsonAndType,
+    }
+}
+
 /// With an output, where none was asked for.
-fn with_output<'a>(form: Output, show: Show<'a>) -> Option<Show<'a>>
+fn with_output<'a>(form: Output, show: Show<'a>) -> Result<Show<'a>, Fault<'a>>
     ensures { result ≡ with_output form show.entry }
 {
-    if show.output.is_some() {
-        return None;
+    match show.output {
+        Some(other) => Err(output_fault(form, other)),
+        None => Ok(Show {
+            output: Some(form),
+            ..show
+        }),
     }
-    Some(Show {
-        output: Some(form),
-        ..show
-    })
 }
 
 /// The name of a file, which does not begin with `-`.
@@ -68,21 +84,23 @@ pub(crate) fn file_name(argument: &str) -> Option<&str>
 }
 
 /// Of this file, where none was asked for.
-fn with_file<'a>(argument: &'a str, show: Show<'a>) -> Option<Show<'a>>
+fn with_file<'a>(argument: &'a str, show: Show<'a>) -> Result<Show<'a>, Fault<'a>>
     ensures { result ≡ with_file argument.now show.entry }
 {
+    let Some(name) = file_name(argument) else {
+        return Err(stray(argument));
+    };
     if show.file.is_some() {
-        return None;
+        return Err(stray(argument));
     }
-    let name = file_name(argument)?;
-    Some(Show {
+    Ok(Show {
         file: Some(name),
         ..show
     })
 }
 
 /// With an option that has no value, or a file.
-fn with_flag<'a>(word: &'a str, show: Show<'a>) -> Option<Show<'a>>
+fn with_flag<'a>(word: &'a str, show: Show<'a>) -> Result<Show<'a>, Fault<'a>>
     ensures { result ≡ with_flag word.now show.entry }
 {
     if is_word(word, "--tree") {
@@ -92,22 +110,22 @@ fn with_flag<'a>(word: &'a str, show: Show<'a>) -> Option<Show<'a>>
     } else if is_word(word, "--type") {
         with_output(Output::Type, show)
     } else if is_word(word, "--places") {
-        Some(Show {
+        Ok(Show {
             shows_places: true,
             ..show
         })
     } else if is_word(word, "--show-keys") {
-        Some(Show {
+        Ok(Show {
             shows_keys: true,
             ..show
         })
     } else if is_word(word, "--no-keys") {
-        Some(Show {
+        Ok(Show {
             shows_keys: false,
             ..show
         })
     } else if is_word(word, "--all-found-keys") {
-        Some(Show {
+        Ok(Show {
             tries_all: true,
             ..show
         })
@@ -117,13 +135,16 @@ fn with_flag<'a>(word: &'a str, show: Show<'a>) -> Option<Show<'a>>
 }
 
 /// As this type, where neither this nor a tree was asked for.
-fn with_type<'a>(name: &'a str, show: Show<'a>) -> Option<Show<'a>>
+fn with_type<'a>(name: &'a str, show: Show<'a>) -> Result<Show<'a>, Fault<'a>>
     ensures { result ≡ with_type name.now show.entry }
 {
-    if show.type_name.is_some() || show.is_tree {
-        return None;
+    if show.type_name.is_some() {
+        return Err(Fault::Twice(Word { text: "--as" }));
     }
-    Some(Show {
+    if show.is_tree {
+        return Err(Fault::TypeAndTree);
+    }
+    Ok(Show {
         type_name: Some(name),
         ..show
     })
@@ -146,7 +167,7 @@ fn source_kind(option: &str) -> Option<SourceKind>
 
 /// With one more key, or file of keys.
 fn with_source<'a>(kind: SourceKind, text: &'a str, show: Show<'a>) -> Result<Show<'a>, AllocError>
-    ensures { IfOk result (λ made. Some made ≡ with_source kind text.now show.entry) }
+    ensures { IfOk result (λ made. Ok made ≡ with_source kind text.now show.entry) }
 {
     let mut sources = show.sources;
     sources.push(Source { kind, text })?;
@@ -165,7 +186,7 @@ fn with_source<'a>(kind: SourceKind, text: &'a str, show: Show<'a>) -> Result<Sh
 
 /// With one more file that holds a password.
 fn with_password_file<'a>(name: &'a str, show: Show<'a>) -> Result<Show<'a>, AllocError>
-    ensures { IfOk result (λ made. Some made ≡ with_password_file name.now show.entry) }
+    ensures { IfOk result (λ made. Ok made ≡ with_password_file name.now show.entry) }
 {
     let mut password_files = show.password_files;
     password_files.push(FileName { text: name })?;
@@ -195,21 +216,21 @@ fn is_valued(argument: &str) -> bool
 
 /// With an option that has a value.
 fn with_value<'a>(
-    option: &str,
+    option: &'a str,
     value: &'a str,
     show: Show<'a>,
-) -> Result<Option<Show<'a>>, AllocError>
+) -> Result<Result<Show<'a>, Fault<'a>>, AllocError>
     ensures { IfOk result (λ found. found ≡ with_value option.now value.now show.entry) }
 {
     if is_word(option, "--as") {
         return Ok(with_type(value, show));
     }
     if is_word(option, "--password-file") {
-        return Ok(Some(with_password_file(value, show)?));
+        return Ok(Ok(with_password_file(value, show)?));
     }
     match source_kind(option) {
-        Some(kind) => Ok(Some(with_source(kind, value, show)?)),
-        None => Ok(None),
+        Some(kind) => Ok(Ok(with_source(kind, value, show)?)),
+        None => Ok(Err(stray(option))),
     }
 }
 
@@ -225,46 +246,50 @@ fn with_first<'a>(
     word: &'a str,
     rest: &'a [String],
     show: Show<'a>,
-) -> Result<Option<Step<'a>>, AllocError>
+) -> Result<Result<Step<'a>, Fault<'a>>, AllocError>
     requires { is_help word.now ≡ false }
-    ensures { IfOk result (λ found. MatchOption found (options_of show.entry (word.now ∷ map string_bytes rest.now) ≡ None)
+    ensures { IfOk result (λ found. MatchResult found
         (λ step. (options_of show.entry (word.now ∷ map string_bytes rest.now) ≡ options_of step.show (map string_bytes step.behind.now))
-        × (length step.behind.now ≤ length rest.now))) }
+        × (length step.behind.now ≤ length rest.now))
+        (λ fault. options_of show.entry (word.now ∷ map string_bytes rest.now) ≡ Err fault)) }
 {
     if !is_valued(word) {
         return match with_flag(word, show) {
-            Some(show) => Ok(Some(Step { show, behind: rest })),
-            None => Ok(None),
+            Ok(show) => Ok(Ok(Step { show, behind: rest })),
+            Err(fault) => Ok(Err(fault)),
         };
     }
     let Some((value, behind)) = rest.split_first() else {
-        return Ok(None);
+        return Ok(Err(Fault::NoValue(Word { text: word })));
     };
     match with_value(word, value.as_str(), show)? {
-        Some(show) => Ok(Some(Step { show, behind })),
-        None => Ok(None),
+        Ok(show) => Ok(Ok(Step { show, behind })),
+        Err(fault) => Ok(Err(fault)),
     }
 }
 
 /// What options ask for, behind those that asked for this.
-fn with_options<'a>(show: Show<'a>, words: &'a [String]) -> Result<Option<Command<'a>>, AllocError>
+fn with_options<'a>(
+    show: Show<'a>,
+    words: &'a [String],
+) -> Result<Result<Command<'a>, Fault<'a>>, AllocError>
     ensures { IfOk result (λ found. found ≡ options_of show.entry (map string_bytes words.now)) }
 {
     let mut asked = show;
     let mut rest = words;
     'options: while let Some((word, behind)) = rest.split_first() {
         if is_help(word.as_str()) {
-            return Ok(Some(Command::Help));
+            return Ok(Ok(Command::Help));
         }
         match with_first(word.as_str(), behind, asked)? {
-            Some(step) => {
+            Ok(step) => {
                 asked = step.show;
                 rest = step.behind;
             }
-            None => return Ok(None),
+            Err(fault) => return Ok(Err(fault)),
         }
     }
-    Ok(Some(Command::Show(asked)))
+    Ok(Ok(Command::Show(asked)))
 }
 
 /// Without any option.
@@ -294,38 +319,40 @@ fn begins_with_help(words: &[String]) -> bool
     }
 }
 
-/// The file that the arguments of a command without options name, or standard input where there is none; `None` where they are more.
-fn operand_of(words: &[String]) -> Option<Operand<'_>>
+/// The file that the arguments of a command without options name, or standard input where there is none.
+fn operand_of(words: &[String]) -> Result<Operand<'_>, Fault<'_>>
     ensures { result ≡ operand_of (map string_bytes words.now) }
 {
     let Some((word, rest)) = words.split_first() else {
-        return Some(Operand { file: None });
+        return Ok(Operand { file: None });
     };
-    if !rest.is_empty() {
-        return None;
+    let Some(name) = file_name(word.as_str()) else {
+        return Err(stray(word.as_str()));
+    };
+    match rest.first() {
+        None => Ok(Operand { file: Some(name) }),
+        Some(other) => Err(stray(other.as_str())),
     }
-    let name = file_name(word.as_str())?;
-    Some(Operand { file: Some(name) })
 }
 
 /// What the arguments of `list` ask for.
-fn list_of(words: &[String]) -> Option<Command<'_>>
+fn list_of(words: &[String]) -> Result<Command<'_>, Fault<'_>>
     ensures { result ≡ of_operand (command.List) (map string_bytes words.now) }
 {
     if begins_with_help(words) {
-        return Some(Command::Help);
+        return Ok(Command::Help);
     }
-    Some(Command::List(operand_of(words)?))
+    Ok(Command::List(operand_of(words)?))
 }
 
 /// What the arguments of `convert` ask for behind the format.
-fn conversion_to(format: Format, words: &[String]) -> Option<Command<'_>>
+fn conversion_to(format: Format, words: &[String]) -> Result<Command<'_>, Fault<'_>>
     ensures { result ≡ of_operand (command.Convert format) (map string_bytes words.now) }
 {
     if begins_with_help(words) {
-        return Some(Command::Help);
+        return Ok(Command::Help);
     }
-    Some(Command::Convert(format, operand_of(words)?))
+    Ok(Command::Convert(format, operand_of(words)?))
 }
 
 /// The format of this name.
@@ -342,25 +369,29 @@ fn format_of(name: &str) -> Option<Format>
 }
 
 /// What the arguments of `convert` ask for.
-fn conversion_of(words: &[String]) -> Option<Command<'_>>
+fn conversion_of(words: &[String]) -> Result<Command<'_>, Fault<'_>>
     ensures { result ≡ conversion_of (map string_bytes words.now) }
 {
-    let (word, rest) = words.split_first()?;
+    let Some((word, rest)) = words.split_first() else {
+        return Err(Fault::NoFormat);
+    };
     if is_help(word.as_str()) {
-        return Some(Command::Help);
+        return Ok(Command::Help);
     }
-    let format = format_of(word.as_str())?;
-    conversion_to(format, rest)
+    match format_of(word.as_str()) {
+        Some(format) => conversion_to(format, rest),
+        None => Err(Fault::NoFormat),
+    }
 }
 
 /// What the arguments of `proxy` ask for behind the direction.
-fn proxy_to(direction: Direction, words: &[String]) -> Option<Command<'_>>
+fn proxy_to(direction: Direction, words: &[String]) -> Result<Command<'_>, Fault<'_>>
     ensures { result ≡ of_operand (command.Proxy direction) (map string_bytes words.now) }
 {
     if begins_with_help(words) {
-        return Some(Command::Help);
+        return Ok(Command::Help);
     }
-    Some(Command::Proxy(direction, operand_of(words)?))
+    Ok(Command::Proxy(direction, operand_of(words)?))
 }
 
 /// The direction of this name.
@@ -377,48 +408,58 @@ fn direction_of(name: &str) -> Option<Direction>
 }
 
 /// What the arguments of `proxy` ask for.
-fn proxy_of(words: &[String]) -> Option<Command<'_>>
+fn proxy_of(words: &[String]) -> Result<Command<'_>, Fault<'_>>
     ensures { result ≡ proxy_of (map string_bytes words.now) }
 {
-    let (word, rest) = words.split_first()?;
+    let Some((word, rest)) = words.split_first() else {
+        return Err(Fault::NoDirection);
+    };
     if is_help(word.as_str()) {
-        return Some(Command::Help);
+        return Ok(Command::Help);
     }
-    let direction = direction_of(word.as_str())?;
-    proxy_to(direction, rest)
+    match direction_of(word.as_str()) {
+        Some(direction) => proxy_to(direction, rest),
+        None => Err(Fault::NoDirection),
+    }
 }
 
 /// What the arguments of `check` ask for behind the name of the type.
-fn check_as<'a>(name: &'a str, words: &'a [String]) -> Option<Command<'a>>
+fn check_as<'a>(name: &'a str, words: &'a [String]) -> Result<Command<'a>, Fault<'a>>
     ensures { result ≡ of_operand (command.Check name.now) (map string_bytes words.now) }
 {
     if begins_with_help(words) {
-        return Some(Command::Help);
+        return Ok(Command::Help);
     }
-    Some(Command::Check(TypeName { text: name }, operand_of(words)?))
+    Ok(Command::Check(TypeName { text: name }, operand_of(words)?))
 }
 
 /// What the arguments of `check` ask for.
-fn check_of(words: &[String]) -> Option<Command<'_>>
+fn check_of(words: &[String]) -> Result<Command<'_>, Fault<'_>>
     ensures { result ≡ check_of (map string_bytes words.now) }
 {
-    let (word, rest) = words.split_first()?;
+    let Some((word, rest)) = words.split_first() else {
+        return Err(Fault::NoType);
+    };
     if is_help(word.as_str()) {
-        return Some(Command::Help);
+        return Ok(Command::Help);
     }
     if !is_word(word.as_str(), "--as") {
-        return None;
+        return Err(Fault::NoType);
     }
-    let (name, behind) = rest.split_first()?;
-    check_as(name.as_str(), behind)
+    match rest.split_first() {
+        Some((name, behind)) => check_as(name.as_str(), behind),
+        None => Err(Fault::NoValue(Word {
+            text: word.as_str(),
+        })),
+    }
 }
 
 /// What a command's name and the arguments behind it ask for.
 fn command_of<'a>(
     alloc: Global,
-    name: &str,
+    name: &'a str,
     rest: &'a [String],
-) -> Result<Option<Command<'a>>, AllocError>
+) -> Result<Result<Command<'a>, Fault<'a>>, AllocError>
     ensures { IfOk result (λ found. found ≡ command_of name.now (map string_bytes rest.now)) }
 {
     if is_word(name, "show") {
@@ -434,19 +475,26 @@ fn command_of<'a>(
     } else if is_word(name, "accept") {
         accept_of(alloc, rest)
     } else {
-        Ok(None)
+        Ok(Err(unknown_command(name)))
     }
 }
 
-/// The command that the arguments are; `None` where they are none. The only error is an allocation failure.
-pub fn parse<'a>(alloc: Global, arguments: &'a [String]) -> Result<Option<Command<'a>>, AllocError>
+/// The command that the arguments are, or the first thing from the left that is wrong with them. The only other error is an allocation
+/// failure.
+pub fn parse<'a>(
+    alloc: Global,
+    arguments: &'a [String],
+) -> Result<Result<Command<'a>, Fault<'a>>, AllocError>
     ensures { IfOk result (λ found. found ≡ asked_by (map string_bytes arguments.now)) }
 {
     let Some((name, rest)) = arguments.split_first() else {
-        return Ok(None);
+        return Ok(Err(Fault::NoCommand));
     };
     if is_help(name.as_str()) {
-        return Ok(Some(Command::Help));
+        return Ok(Ok(Command::Help));
+    }
+    if is_word(name.as_str(), "--version") {
+        return Ok(Ok(Command::Version));
     }
     command_of(alloc, name.as_str(), rest)
 }

@@ -217,6 +217,8 @@ impl<'a> Model for Accept<'a> {
 pub enum Command<'a> {
     /// Help: the option `--help`.
     Help,
+    /// The version: the option `--version`.
+    Version,
     /// What a file or standard input holds: `show`.
     Show(Show<'a>),
     /// Whether a file or standard input is of the type of this name: `check`.

@@ -3,6 +3,7 @@
 
 mod arguments;
 mod command;
+mod fault;
 mod parse_accept;
 
 pub use arguments::parse;
@@ -10,3 +11,4 @@ pub use command::{
     Accept, Command, Direction, FileName, Format, NameText, Operand, Output, Show, Source,
     SourceKind, TypeName,
 };
+pub use fault::{Fault, Word};

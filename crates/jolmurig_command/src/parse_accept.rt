@@ -1,6 +1,6 @@
 //! What the arguments of `accept` ask for.
 
-ghost use Rattle.std.specs.Prelude.{◌≡◌, ◌≤◌, ◌∷◌, false, length, map, None, Some, IfOk, MatchOption};
+ghost use Rattle.std.specs.Prelude.{◌≡◌, ◌≤◌, ◌∷◌, false, codes, length, map, Some, Ok, Err, IfOk, MatchResult};
 ghost use Rattle.std.specs.String.{string_bytes};
 ghost use Rattle.jolmurig_command.specs.AcceptArguments.{accept_asked, accept_file, accept_flag, accept_options, accept_pac, accept_value, accept_valued, once, pac_of, with_realm, with_server};
 ghost use Rattle.jolmurig_command.specs.Accepts.{no_option};
@@ -8,34 +8,37 @@ ghost use Rattle.jolmurig_command.specs.Words.{is_help};
 
 use crate::arguments::{file_name, is_help, is_word};
 use crate::command::{Accept, Command, NameText};
+use crate::fault::{Fault, Word, stray};
 use krb_accept::PacCheck;
 use std::alloc::{AllocError, Global};
 
 /// Of this file, where none was asked for.
-fn accept_file<'a>(argument: &'a str, asked: Accept<'a>) -> Option<Accept<'a>>
+fn accept_file<'a>(argument: &'a str, asked: Accept<'a>) -> Result<Accept<'a>, Fault<'a>>
     ensures { result ≡ accept_file argument.now asked.entry }
 {
-    let name = file_name(argument)?;
+    let Some(name) = file_name(argument) else {
+        return Err(stray(argument));
+    };
     if asked.file.is_some() {
-        return None;
+        return Err(stray(argument));
     }
-    Some(Accept {
+    Ok(Accept {
         file: Some(name),
         ..asked
     })
 }
 
 /// With an option that has no value, or a file.
-fn accept_flag<'a>(word: &'a str, asked: Accept<'a>) -> Option<Accept<'a>>
+fn accept_flag<'a>(word: &'a str, asked: Accept<'a>) -> Result<Accept<'a>, Fault<'a>>
     ensures { result ≡ accept_flag word.now asked.entry }
 {
     if is_word(word, "--bare") {
-        Some(Accept {
+        Ok(Accept {
             is_bare: true,
             ..asked
         })
     } else if is_word(word, "--other-checksum") {
-        Some(Accept {
+        Ok(Accept {
             takes_other: true,
             ..asked
         })
@@ -58,66 +61,68 @@ fn pac_of(word: &str) -> Option<PacCheck>
 }
 
 /// With this done with the PAC, where nothing was asked for.
-fn accept_pac<'a>(word: &str, asked: Accept<'a>) -> Option<Accept<'a>>
+fn accept_pac<'a>(word: &str, asked: Accept<'a>) -> Result<Accept<'a>, Fault<'a>>
     ensures { result ≡ accept_pac word.now asked.entry }
 {
-    let check = pac_of(word)?;
+    let Some(check) = pac_of(word) else {
+        return Err(Fault::OtherPac);
+    };
     if asked.pac.is_some() {
-        return None;
+        return Err(Fault::Twice(Word { text: "--pac" }));
     }
-    Some(Accept {
+    Ok(Accept {
         pac: Some(check),
         ..asked
     })
 }
 
 /// Of this keytab, where none was asked for.
-fn with_keytab<'a>(text: &'a str, asked: Accept<'a>) -> Option<Accept<'a>>
-    ensures { result ≡ once asked.entry.keytab (record asked.entry { keytab = Some text.now }) }
+fn with_keytab<'a>(text: &'a str, asked: Accept<'a>) -> Result<Accept<'a>, Fault<'a>>
+    ensures { result ≡ once (codes "--keytab") asked.entry.keytab (record asked.entry { keytab = Some text.now }) }
 {
     if asked.keytab.is_some() {
-        return None;
+        return Err(Fault::Twice(Word { text: "--keytab" }));
     }
-    Some(Accept {
+    Ok(Accept {
         keytab: Some(text),
         ..asked
     })
 }
 
 /// At this time.
-fn with_time<'a>(text: &'a str, asked: Accept<'a>) -> Option<Accept<'a>>
-    ensures { result ≡ once asked.entry.time (record asked.entry { time = Some text.now }) }
+fn with_time<'a>(text: &'a str, asked: Accept<'a>) -> Result<Accept<'a>, Fault<'a>>
+    ensures { result ≡ once (codes "--time") asked.entry.time (record asked.entry { time = Some text.now }) }
 {
     if asked.time.is_some() {
-        return None;
+        return Err(Fault::Twice(Word { text: "--time" }));
     }
-    Some(Accept {
+    Ok(Accept {
         time: Some(text),
         ..asked
     })
 }
 
 /// With this skew.
-fn with_skew<'a>(text: &'a str, asked: Accept<'a>) -> Option<Accept<'a>>
-    ensures { result ≡ once asked.entry.skew (record asked.entry { skew = Some text.now }) }
+fn with_skew<'a>(text: &'a str, asked: Accept<'a>) -> Result<Accept<'a>, Fault<'a>>
+    ensures { result ≡ once (codes "--skew") asked.entry.skew (record asked.entry { skew = Some text.now }) }
 {
     if asked.skew.is_some() {
-        return None;
+        return Err(Fault::Twice(Word { text: "--skew" }));
     }
-    Some(Accept {
+    Ok(Accept {
         skew: Some(text),
         ..asked
     })
 }
 
 /// With these channel bindings.
-fn with_bindings<'a>(text: &'a str, asked: Accept<'a>) -> Option<Accept<'a>>
-    ensures { result ≡ once asked.entry.bindings (record asked.entry { bindings = Some text.now }) }
+fn with_bindings<'a>(text: &'a str, asked: Accept<'a>) -> Result<Accept<'a>, Fault<'a>>
+    ensures { result ≡ once (codes "--bindings") asked.entry.bindings (record asked.entry { bindings = Some text.now }) }
 {
     if asked.bindings.is_some() {
-        return None;
+        return Err(Fault::Twice(Word { text: "--bindings" }));
     }
-    Some(Accept {
+    Ok(Accept {
         bindings: Some(text),
         ..asked
     })
@@ -125,7 +130,7 @@ fn with_bindings<'a>(text: &'a str, asked: Accept<'a>) -> Option<Accept<'a>>
 
 /// With one more server.
 fn with_server<'a>(name: &'a str, asked: Accept<'a>) -> Result<Accept<'a>, AllocError>
-    ensures { IfOk result (λ made. Some made ≡ with_server name.now asked.entry) }
+    ensures { IfOk result (λ made. Ok made ≡ with_server name.now asked.entry) }
 {
     let mut servers = asked.servers;
     servers.push(NameText { text: name })?;
@@ -145,7 +150,7 @@ fn with_server<'a>(name: &'a str, asked: Accept<'a>) -> Result<Accept<'a>, Alloc
 
 /// With one more realm.
 fn with_realm<'a>(name: &'a str, asked: Accept<'a>) -> Result<Accept<'a>, AllocError>
-    ensures { IfOk result (λ made. Some made ≡ with_realm name.now asked.entry) }
+    ensures { IfOk result (λ made. Ok made ≡ with_realm name.now asked.entry) }
 {
     let mut realms = asked.realms;
     realms.push(NameText { text: name })?;
@@ -178,10 +183,10 @@ fn accept_valued(argument: &str) -> bool
 
 /// With an option that has a value.
 fn accept_value<'a>(
-    option: &str,
+    option: &'a str,
     value: &'a str,
     asked: Accept<'a>,
-) -> Result<Option<Accept<'a>>, AllocError>
+) -> Result<Result<Accept<'a>, Fault<'a>>, AllocError>
     ensures { IfOk result (λ found. found ≡ accept_value option.now value.now asked.entry) }
 {
     if is_word(option, "--keytab") {
@@ -191,15 +196,15 @@ fn accept_value<'a>(
     } else if is_word(option, "--skew") {
         Ok(with_skew(value, asked))
     } else if is_word(option, "--server") {
-        Ok(Some(with_server(value, asked)?))
+        Ok(Ok(with_server(value, asked)?))
     } else if is_word(option, "--realm") {
-        Ok(Some(with_realm(value, asked)?))
+        Ok(Ok(with_realm(value, asked)?))
     } else if is_word(option, "--bindings") {
         Ok(with_bindings(value, asked))
     } else if is_word(option, "--pac") {
         Ok(accept_pac(value, asked))
     } else {
-        Ok(None)
+        Ok(Err(stray(option)))
     }
 }
 
@@ -215,66 +220,70 @@ fn accept_first<'a>(
     word: &'a str,
     rest: &'a [String],
     asked: Accept<'a>,
-) -> Result<Option<Step<'a>>, AllocError>
+) -> Result<Result<Step<'a>, Fault<'a>>, AllocError>
     requires { is_help word.now ≡ false }
-    ensures { IfOk result (λ found. MatchOption found (accept_options asked.entry (word.now ∷ map string_bytes rest.now) ≡ None)
+    ensures { IfOk result (λ found. MatchResult found
         (λ step. (accept_options asked.entry (word.now ∷ map string_bytes rest.now) ≡ accept_options step.asked (map string_bytes step.behind.now))
-        × (length step.behind.now ≤ length rest.now))) }
+        × (length step.behind.now ≤ length rest.now))
+        (λ fault. accept_options asked.entry (word.now ∷ map string_bytes rest.now) ≡ Err fault)) }
 {
     if !accept_valued(word) {
         return match accept_flag(word, asked) {
-            Some(asked) => Ok(Some(Step {
+            Ok(asked) => Ok(Ok(Step {
                 asked,
                 behind: rest,
             })),
-            None => Ok(None),
+            Err(fault) => Ok(Err(fault)),
         };
     }
     let Some((value, behind)) = rest.split_first() else {
-        return Ok(None);
+        return Ok(Err(Fault::NoValue(Word { text: word })));
     };
     match accept_value(word, value.as_str(), asked)? {
-        Some(asked) => Ok(Some(Step { asked, behind })),
-        None => Ok(None),
+        Ok(asked) => Ok(Ok(Step { asked, behind })),
+        Err(fault) => Ok(Err(fault)),
     }
 }
 
 /// What is asked for, where a keytab is named.
-fn accept_asked(asked: Accept<'_>) -> Option<Command<'_>>
+fn accept_asked<'a>(asked: Accept<'a>) -> Result<Command<'a>, Fault<'a>>
     ensures { result ≡ accept_asked asked.entry }
 {
     if asked.keytab.is_none() {
-        return None;
+        return Err(Fault::NoKeytab);
     }
-    Some(Command::Accept(asked))
+    Ok(Command::Accept(asked))
 }
 
 /// What options ask for, behind those that asked for this.
 fn accept_options<'a>(
     asked: Accept<'a>,
     words: &'a [String],
-) -> Result<Option<Command<'a>>, AllocError>
+) -> Result<Result<Command<'a>, Fault<'a>>, AllocError>
     ensures { IfOk result (λ found. found ≡ accept_options asked.entry (map string_bytes words.now)) }
 {
     let mut so_far = asked;
     let mut rest = words;
     'options: while let Some((word, behind)) = rest.split_first() {
         if is_help(word.as_str()) {
-            return Ok(Some(Command::Help));
+            return Ok(Ok(Command::Help));
         }
         match accept_first(word.as_str(), behind, so_far)? {
-            Some(step) => {
+            Ok(step) => {
                 so_far = step.asked;
                 rest = step.behind;
             }
-            None => return Ok(None),
+            Err(fault) => return Ok(Err(fault)),
         }
     }
     Ok(accept_asked(so_far))
 }
 
 /// What the arguments of `accept` ask for.
-pub(crate) fn accept_of(alloc: Global, words: &[String]) -> Result<Option<Command<'_>>, AllocError>
+pub(crate) fn accept_of<'a>(
+    alloc: Global,
+    words: &'a [String],
+) -> Result<Result<Command<'a>, Fault<'a>>, AllocError>
     ensures { IfOk result (λ found. found ≡ accept_options no_option (map string_bytes words.now)) }
 {
     let asked = Accept {

@@ -1,7 +1,8 @@
 use Rattle.std.proofs.Common.{ap, sym, ◌∙◌, ◌+◌, ◌∷◌, drop, map, arith}
 use Rattle.std.proofs.Math.ListN.{drop_of_length-le}
 use Rattle.std.proofs.lemmas.List.{drop_more}
-use Rattle.jolmurig.proofs.PasswordLists.{continues_more, continues_none}
+use Rattle.std.proofs.lemmas.Result.{err_from_is_err_and}
+use Rattle.jolmurig.proofs.PasswordLists.{continues_more, continues_none, continues_rejected}
 use Rattle.jolmurig.proofs.passwords.passwords_of_files.Goals as goal
 
 pub names-preserved : goal.names-preserved
@@ -12,6 +13,15 @@ names-preserved g c =
     continues_more (g.F.Files.gives c.args.files.now) c.name-item.result (drop n names) (drop (n + 1) names) names
     (map (λ p. p.items) c.names.passwords.items) (map (λ p. p.items) c.push_password.new.passwords.items) cut c.names.invariant
     (rw (← c.name.view_is) c.in_ok-push_password.ensures.found)
+
+pub returns-in_err-push_password-clause-rejected : goal.returns-in_err-push_password-clause-rejected
+returns-in_err-push_password-clause-rejected g c =
+    let names = c.args.names.now in
+    let n = c.names.name-index in
+    let cut = drop_more names n c.name-item.result c.names-test.true ∙ ap (λ y. y ∷ drop (n + 1) names) (sym c.name-item.is) in
+    let p = err_from_is_err_and c.from_residual.result c.from_residual.ensures.1 in
+    rw (p.1, p.2) (continues_rejected (g.F.Files.gives c.args.files.now) c.name-item.result (drop n names) (drop (n + 1) names) names
+    (map (λ p. p.items) c.names.passwords.items) _ cut c.names.invariant (rw (← c.name.view_is) c.in_err-push_password.ensures.rejected))
 
 pub returns-clause-found : goal.returns-clause-found
 returns-clause-found g c =
