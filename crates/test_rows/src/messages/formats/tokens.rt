@@ -72,7 +72,9 @@ fn framed(row: &Row<'_>) -> Result<Vec<u8>, GssApiMessageError> {
     let token = IAKerbProxyMessage::<AsReq>::decode_application_iakerb_proxy_message(
         row.alloc, row.octets,
     )?;
-    Ok(to_vec(row.alloc, &token)?)
+    let octets = to_vec(row.alloc, &token);
+    drop(token);
+    Ok(octets?)
 }
 
 /// The findings of a token, by the call that reads it, or of a per-message token.
