@@ -76,7 +76,9 @@ fn try_row(alloc: Global, row: &Row) -> Answer {
 pub(crate) fn answer(alloc: Global, columns: Columns<'_>) -> Result<String, RowError> {
     let row = Row::of(alloc, columns)?;
     let (call, suite) = (row.call, row.suite);
-    Ok(match try_row(alloc, &row) {
+    let answer = try_row(alloc, &row);
+    drop(row);
+    Ok(match answer {
         Some(Ok(text)) => format!(in alloc; "{call} {suite}: {text}\n")?,
         // (a row that expects the error of memory has its text alone, and makes no call)
         Some(Err(rejection)) if rejection.is_out_of_memory() => return Err(RowError::OutOfMemory),

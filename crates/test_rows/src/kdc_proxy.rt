@@ -26,7 +26,11 @@ pub(crate) fn answer(alloc: Global, mut columns: Columns<'_>) -> Result<String, 
         }
     };
     let is_read = match read_request(alloc, &octets) {
-        Ok(request) => request.datagram == message.as_slice(),
+        Ok(request) => {
+            let is_same = request.datagram == message.as_slice();
+            drop(request);
+            is_same
+        }
         Err(_) => false,
     };
     let size = octets.len();

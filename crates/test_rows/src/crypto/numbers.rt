@@ -91,16 +91,19 @@ fn constants(alloc: Global) -> KerberosCryptoResult<String> {
 /// Calls of numbers (RFC 3961, 5.3 and 8; RFC 3962, 7; RFC 8009, 7), and the constants of derived
 /// keys.
 pub fn try_number(alloc: Global, row: &Row) -> Answer {
-    match row.call {
-        "usage_ke" => answer_of(alloc, copied(alloc, &usage_ke(row.number))),
-        "usage_ki" => answer_of(alloc, copied(alloc, &usage_ki(row.number))),
-        "usage_kc" => answer_of(alloc, copied(alloc, &usage_kc(row.number))),
-        "constants" => Some(constants(alloc)),
+    let constant = match row.call {
+        "usage_ke" => usage_ke(row.number),
+        "usage_ki" => usage_ki(row.number),
+        "usage_kc" => usage_kc(row.number),
+        "constants" => return Some(constants(alloc)),
         "cipher_suite" => {
             let number = usize::try_from(row.number).ok()?;
-            Some(cipher_suite(alloc, number, &row.input))
+            return Some(cipher_suite(alloc, number, &row.input));
         }
-        "checksum_suite" => Some(checksum_suite(alloc, usize::try_from(row.number).ok()?)),
-        _ => None,
-    }
+        "checksum_suite" => {
+            return Some(checksum_suite(alloc, usize::try_from(row.number).ok()?));
+        }
+        _ => return None,
+    };
+    answer_of(alloc, copied(alloc, &constant))
 }
