@@ -16,8 +16,10 @@ from sequences import LEAVES, Anything, Field, Leaf, ListOf, NoRule, Struct, Tag
 TOP = Path(__file__).resolve().parent.parent
 CRATE = TOP / "crates" / "krb_show_row_laws"
 LAWS = CRATE / "src" / "laws.rt"
-SHOWN = TOP / "crates" / "krb_show_messages" / "src" / "rows.rt"
+NAMED_TYPES = TOP / "crates" / "krb_show_pages" / "src" / "types.rt"
 PROOFS = "Rattle.krb_show_row_laws.proofs"
+# The type that is named and has no row, but one an alternative: a law of its own is of it.
+CHOICE = "PA-PK-AS-REP"
 # How many levels the laws walk (specs/Ties.antt).
 LEVELS = 64
 # The file of each law, and what its first line says.
@@ -190,7 +192,7 @@ CLAUSE = re.compile(r'^    ensures (\w+) \{ HasItsRow ⟦<(.+) as DerEncode>⟧ 
 
 
 def clauses_of(laws):
-    """The clauses of src/laws.rt that a row is its type's: each type with HasRow has one."""
+    """The clauses of src/laws.rt that a row is its type's: each type that can be named has one."""
     clauses, law = [], ""
     for line in laws.split("\n"):
         law = line[7:].partition("(")[0] if line.startswith("pub fn ") else law
@@ -199,9 +201,9 @@ def clauses_of(laws):
                 raise NoRule(f"{law}: FILES of docs/ties.py has no line of it")
             clauses.append(Clause(law, *found.groups()))
     named = {it.row for it in clauses}
-    for row in re.findall(r'ghost row_name = \{ codes "(.+)" \};', SHOWN.read_text("utf-8")):
-        if row not in named:
-            raise NoRule(f"no clause is of {row}, which has an impl of HasRow")
+    for row in re.findall(r'^    (?:\(0x\w\w, )?"(.+)"\)?,$', NAMED_TYPES.read_text("utf-8"), re.M):
+        if row not in named and row != CHOICE:
+            raise NoRule(f"no clause is of {row}, which krb_show_pages names")
     return clauses
 
 

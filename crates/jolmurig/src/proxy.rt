@@ -2,7 +2,7 @@
 
 ghost use Rattle.std.specs.Prelude.{◌≡◌, ◌⊎◌, ◌++◌, OnOk, IfOk, IfErr};
 ghost use Rattle.jolmurig.specs.Calls.{blocked, passed_on};
-ghost use Rattle.jolmurig.specs.Passages.{IsBlocked, failure_of_proxy};
+ghost use Rattle.jolmurig.specs.Passages.{IsBlocked, IsProxyFailure};
 ghost use Rattle.jolmurig.specs.Requests.{IsLineOf, destination, other_realm, service_name};
 ghost use Rattle.jolmurig_command.specs.declared.command.Direction.TheVariants as direction;
 ghost use Rattle.jolmurig.specs.declared.failure.Failure.TheVariants as failure;
@@ -20,7 +20,6 @@ use krb_messages::messages::{
     ApRep, ApReq, AsRep, AsReq, KdcProxyMessage, KrbError, KrbPriv, TgsRep, TgsReq,
 };
 use krb_show_any::{Kind, PageError};
-use krb_show_pages::DataKind;
 use krb_show_text::{Style, push_escaped};
 use std::alloc::{AllocError, Global};
 
@@ -123,11 +122,11 @@ fn der_error(error: MessageError) -> Asn1DerError
 
 /// The failure that an error of a proxy is.
 fn failure_of_proxy(error: ProxyError) -> Failure<'static>
-    ensures { result ≡ failure_of_proxy error }
+    ensures { IsProxyFailure error result }
 {
     match error {
         ProxyError::ProxyMessage(why) => Failure::Octets {
-            kind: Kind::Data(DataKind::KdcProxyMessage),
+            kind: Kind::Type("KDC-PROXY-MESSAGE"),
             why: PageError::Der(der_error(why)),
             place: None,
         },

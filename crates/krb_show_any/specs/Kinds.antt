@@ -1,8 +1,6 @@
 -- What octets begin as.
 use Rattle.std.specs.Prelude.{ℕ, nat_eq, nat_le, ◌+◌, ◌*◌, length, slice_index, ◌||◌, ◌&&◌, Bool, true, if◌then◌else◌, Option, Some, None, List, [], ◌∷◌}
-use Rattle.krb_show_pages.specs.declared.kinds.DataKind.{DataKind}
 use Rattle.krb_show_pages.specs.Told.{is_message, is_part}
-use Rattle.krb_show_pages.specs.declared.certificate_kinds.CertificateKind.{CertificateKind}
 use Rattle.krb_show_any.specs.declared.kind.Kind.{Kind}
 use Rattle.krb_show_any.specs.declared.kind.Kind.TheVariants as kind
 
@@ -69,15 +67,13 @@ kind_of (tag ∷ octets) =
     if is_application tag then Some (kind.Application tag) else if is_token_tag tag then Some kind.Token else kind_without_tag (tag ∷ octets)
 
 -- one fact for each kind
-abbrev pub by_kind : Kind → (ℕ → Type 0) → Type 0 → Type 0 → Type 0 → Type 0 → Type 0 → Type 0 → (DataKind → Type 0) → (CertificateKind → Type 0)
-    → Type 0 → Type 0
-by_kind (kind.Application tag) application token pac negoex frame keytab ccache bare certificate tree = application tag
-by_kind kind.Token application token pac negoex frame keytab ccache bare certificate tree = token
-by_kind kind.Pac application token pac negoex frame keytab ccache bare certificate tree = pac
-by_kind kind.Negoex application token pac negoex frame keytab ccache bare certificate tree = negoex
-by_kind kind.PasswordFrame application token pac negoex frame keytab ccache bare certificate tree = frame
-by_kind kind.Keytab application token pac negoex frame keytab ccache bare certificate tree = keytab
-by_kind kind.Ccache application token pac negoex frame keytab ccache bare certificate tree = ccache
-by_kind (kind.Data k) application token pac negoex frame keytab ccache bare certificate tree = bare k
-by_kind (kind.Certificate k) application token pac negoex frame keytab ccache bare certificate tree = certificate k
-by_kind kind.Tree application token pac negoex frame keytab ccache bare certificate tree = tree
+abbrev pub by_kind : Kind → (ℕ → Type 0) → Type 0 → Type 0 → Type 0 → Type 0 → Type 0 → Type 0 → (List ℕ → Type 0) → Type 0 → Type 0
+by_kind (kind.Application tag) application token pac negoex frame keytab ccache named tree = application tag
+by_kind kind.Token application token pac negoex frame keytab ccache named tree = token
+by_kind kind.Pac application token pac negoex frame keytab ccache named tree = pac
+by_kind kind.Negoex application token pac negoex frame keytab ccache named tree = negoex
+by_kind kind.PasswordFrame application token pac negoex frame keytab ccache named tree = frame
+by_kind kind.Keytab application token pac negoex frame keytab ccache named tree = keytab
+by_kind kind.Ccache application token pac negoex frame keytab ccache named tree = ccache
+by_kind (kind.Type name) application token pac negoex frame keytab ccache named tree = named name.now
+by_kind kind.Tree application token pac negoex frame keytab ccache named tree = tree

@@ -16,12 +16,11 @@ use Rattle.krb_show_messages.specs.Formats.{formats_of}
 use Rattle.krb_show_pages.specs.CcachePlaces.{AreCcachePlaces}
 use Rattle.krb_show_pages.specs.KeytabPlaces.{AreKeytabPlaces}
 use Rattle.krb_show_negoex.specs.NegoexPlaces.{negoex_places}
-use Rattle.krb_show_pages.specs.declared.certificate_kinds.CertificateKind.{CertificateKind}
-use Rattle.krb_show_pages.specs.declared.certificate_kinds.CertificateKind.TheVariants as certificates
+use Rattle.krb_show_pages.specs.Pages.{is_reply}
 use Rattle.krb_show_messages.specs.Places.{formats_places, pac_places}
 use Rattle.krb_show_tokens.specs.MessagePlaces.{kpasswd_places}
 use Rattle.krb_show_tokens.specs.TokenPlaces.{token_places}
-use Rattle.krb_show_any.specs.Rows.{IsWalkOf, row_name}
+use Rattle.krb_show_any.specs.Rows.{IsWalkOf, type_row}
 use Rattle.krb_show_any.specs.declared.kind.Kind.{Kind}
 use Rattle.krb_show_any.specs.declared.kind.Kind.TheVariants as kinds
 
@@ -50,25 +49,25 @@ is_placed [] = false
 is_placed (t ∷ ts) = has_place t.place
 
 -- the page of a PA-PK-AS-REP is a struct of its alternative (RFC 4556, 3.2.3), which has no place of its own
-abbrev pub within_choice : CertificateKind → List (Option Place) → List (Option Place)
-within_choice certificates.PaPkAsRep found = None ∷ (found ++ None ∷ [])
-within_choice other found = found
+abbrev pub within_choice : Bool → List (Option Place) → List (Option Place)
+within_choice true found = None ∷ (found ++ None ∷ [])
+within_choice false found = found
 
--- a type of PKINIT or of CredSSP: those of its row
-abbrev pub certificate_places : CertificateKind → List ℕ → List (Option Place) → Type 0
-certificate_places k octets places =
-    (found : List (Option Place)) × ArePlacesByRow formats_of formats_places (row_name (kinds.Certificate k) octets) 0 octets found
-    × (places ≡ within_choice k found)
+-- a type that is named: those of its row
+abbrev pub type_places : List ℕ → List ℕ → List (Option Place) → Type 0
+type_places name octets places =
+    (found : List (Option Place)) × ArePlacesByRow formats_of formats_places (type_row name octets) 0 octets found
+    × (places ≡ within_choice (is_reply name) found)
 
 -- The places of the tokens of octets of a kind, in their order: those that the layout of a PAC gives (MS-PAC, 2.3 and 2.4), of messages of NEGOEX
 -- (MS-NEGOEX, 2.2), of keytabs and of caches (MIT Kerberos, "Keytab file format" and "Credential cache file format"), of tokens of the GSS-API and of
--- kpasswd messages (RFC 3244, 2), and by their rows those of PKINIT and CredSSP; none of other kinds.
+-- kpasswd messages (RFC 3244, 2), and by their rows those of types that are named; none of other kinds.
 abbrev pub are_places : Kind → List ℕ → List (Option Place) → Type 0
 are_places kinds.Pac octets places = pac_places octets places
 are_places kinds.Negoex octets places = negoex_places octets places
 are_places kinds.Keytab octets places = AreKeytabPlaces octets places
 are_places kinds.Ccache octets places = AreCcachePlaces octets places
-are_places (kinds.Certificate k) octets places = certificate_places k octets places
+are_places (kinds.Type name) octets places = type_places name.now octets places
 are_places kinds.Token octets places = token_places octets places
 are_places kinds.PasswordFrame octets places = kpasswd_places octets places
 are_places other octets places = places ≡ []

@@ -1,6 +1,6 @@
 -- The rows of kinds in the table of `krb_schema`, and what a walk by a row comes to.
 use Rattle.std.specs.Prelude.{◌||◌, ℕ, nat_eq, if◌then◌else◌, List, [], ◌∷◌, codes}
-use Rattle.krb_show_pages.specs.declared.certificate_kinds.CertificateKind.TheVariants as certificates
+use Rattle.krb_show_pages.specs.Pages.{is_reply}
 use Rattle.krb_show.specs.RowWalk.{IsWalkBy}
 use Rattle.krb_show.specs.declared.rows.walk.Walk.{Walk}
 use Rattle.krb_show_any.specs.Names.{kind_name}
@@ -21,10 +21,14 @@ abbrev pub choice_row : List ℕ → List ℕ
 choice_row [] = codes "PA-PK-AS-REP (dhInfo)"
 choice_row (first ∷ rest) = if nat_eq first 129 then codes "PA-PK-AS-REP (encKeyPack)" else codes "PA-PK-AS-REP (dhInfo)"
 
+-- that of a type, which is a CHOICE if it is PA-PK-AS-REP
+abbrev pub type_row : List ℕ → List ℕ → List ℕ
+type_row name octets = if is_reply name then choice_row octets else name
+
 -- the name of the row of octets of a kind, if there is one
 abbrev pub row_name : Kind → List ℕ → List ℕ
 row_name kinds.Token octets = token_row octets
-row_name (kinds.Certificate certificates.PaPkAsRep) octets = choice_row octets
+row_name (kinds.Type name) octets = type_row name.now octets
 row_name kind octets = kind_name kind
 
 -- what a walk of octets of a kind comes to

@@ -1,21 +1,19 @@
 //! All kinds that the library reads.
 
-ghost use Rattle.std.specs.Prelude.{◌≡◌, Result, Vec};
+ghost use Rattle.std.specs.Prelude.{◌≡◌, nat_eq, Result, Vec};
 ghost use Rattle.std.specs.declared.alloc.Global.{Global};
 ghost use Rattle.std.specs.declared.io.Error.{Error};
 ghost use Rattle.krb_der_core.specs.declared.error.Asn1DerError.{Asn1DerError};
 ghost use Rattle.krb_gss_tokens.specs.declared.error.GssApiMessageError.{GssApiMessageError};
 ghost use Rattle.krb_pac.specs.declared.error.PacError.{PacError};
 ghost use Rattle.krb_show.specs.Tokens.{Token};
+ghost use Rattle.krb_show_pages.specs.Pages.{IsPageByFirst, IsPageOfType};
 ghost use Rattle.krb_show_pages.specs.declared.files.error.FilePageError.{FilePageError};
 ghost use Rattle.krb_show_tokens.specs.declared.kpasswd.error.PasswordFrameError.{PasswordFrameError};
 ghost use Rattle.krb_show_any.specs.Told.{IsPacTold, IsTreeTold};
 ghost use Rattle.krb_show_any.specs.Kinds.{by_kind};
 ghost use Rattle.krb_show_any.specs.Errors.{of_der, of_exchange, of_file, of_frame, of_pac, of_token};
 
-use crate::applications::Applications;
-use crate::certificates::Certificates;
-use crate::data::Data;
 use crate::error::{PageError, of_der, of_exchange, of_file, of_frame, of_pac, of_token};
 use crate::exchanges::Exchanges;
 use crate::files::{Ccaches, Keytabs};
@@ -27,16 +25,16 @@ use krb_der::Asn1DerError;
 use krb_gss_tokens::GssApiMessageError;
 use krb_show::{Page, page_of_tree};
 use krb_show_messages::page_of_pac;
-use krb_show_pages::{CertificateKind, DataKind, FilePageError};
+use krb_show_pages::{FilePageError, page_of_application, page_of_type};
 use krb_show_tokens::kpasswd::PasswordFrameError;
 use std::alloc::Global;
 use std::io;
 
 /// The page of a message or an opened part.
 fn application_page(alloc: Global, tag: u8, octets: &[u8]) -> Result<Page, PageError>
-    ensures { (r : Result (Vec Token Global) Asn1DerError) × (result ≡ of_der r) × ⟦<Applications as Pages<u8, Asn1DerError>>⟧.tells tag octets.now r }
+    ensures { (r : Result (Vec Token Global) Asn1DerError) × (result ≡ of_der r) × IsPageByFirst (nat_eq tag) (λ p. p.items) octets.now r }
 {
-    of_der(Applications::page_of(alloc, tag, octets))
+    of_der(page_of_application(alloc, tag, octets))
 }
 
 /// The page of a token.
@@ -85,18 +83,11 @@ fn ccache_page(alloc: Global, octets: &[u8]) -> Result<Page, PageError>
     of_file(Ccaches::page_of(alloc, (), octets))
 }
 
-/// The page of a type that its first octet does not tell.
-fn data_page(alloc: Global, kind: DataKind, octets: &[u8]) -> Result<Page, PageError>
-    ensures { (r : Result (Vec Token Global) Asn1DerError) × (result ≡ of_der r) × ⟦<Data as Pages<DataKind, Asn1DerError>>⟧.tells kind octets.now r }
+/// The page of a type that is named.
+fn type_page(alloc: Global, name: &'static str, octets: &[u8]) -> Result<Page, PageError>
+    ensures { (r : Result (Vec Token Global) Asn1DerError) × (result ≡ of_der r) × IsPageOfType name.now (λ p. p.items) octets.now r }
 {
-    of_der(Data::page_of(alloc, kind, octets))
-}
-
-/// The page of a type of PKINIT or of CredSSP.
-fn certificate_page(alloc: Global, kind: CertificateKind, octets: &[u8]) -> Result<Page, PageError>
-    ensures { (r : Result (Vec Token Global) Asn1DerError) × (result ≡ of_der r) × ⟦<Certificates as Pages<CertificateKind, Asn1DerError>>⟧.tells kind octets.now r }
-{
-    of_der(Certificates::page_of(alloc, kind, octets))
+    of_der(page_of_type(alloc, name, octets))
 }
 
 /// The page of octets as a tree of elements.
@@ -115,15 +106,14 @@ pub struct Everything;
 
 impl Pages<Kind, PageError> for Everything {
     ghost tells = { λ kind octets result. by_kind kind
-        (λ tag. (r : Result (Vec Token Global) Asn1DerError) × (result ≡ of_der r) × ⟦<Applications as Pages<u8, Asn1DerError>>⟧.tells tag octets r)
+        (λ tag. (r : Result (Vec Token Global) Asn1DerError) × (result ≡ of_der r) × IsPageByFirst (nat_eq tag) (λ p. p.items) octets r)
         ((r : Result (Vec Token Global) GssApiMessageError) × (result ≡ of_token r) × ⟦<Tokens as Pages<(), GssApiMessageError>>⟧.tells tt octets r)
         ((r : Result (Vec Token Global) PacError) × (result ≡ of_pac r) × IsPacTold octets r)
         ((r : Result (Vec Token Global) Error) × of_exchange r result × ⟦<Exchanges as Pages<(), io::Error>>⟧.tells tt octets r)
         ((r : Result (Vec Token Global) PasswordFrameError) × (result ≡ of_frame r) × ⟦<PasswordFrames as Pages<(), PasswordFrameError>>⟧.tells tt octets r)
         ((r : Result (Vec Token Global) FilePageError) × (result ≡ of_file r) × ⟦<Keytabs as Pages<(), FilePageError>>⟧.tells tt octets r)
         ((r : Result (Vec Token Global) FilePageError) × (result ≡ of_file r) × ⟦<Ccaches as Pages<(), FilePageError>>⟧.tells tt octets r)
-        (λ k. (r : Result (Vec Token Global) Asn1DerError) × (result ≡ of_der r) × ⟦<Data as Pages<DataKind, Asn1DerError>>⟧.tells k octets r)
-        (λ k. (r : Result (Vec Token Global) Asn1DerError) × (result ≡ of_der r) × ⟦<Certificates as Pages<CertificateKind, Asn1DerError>>⟧.tells k octets r)
+        (λ name. (r : Result (Vec Token Global) Asn1DerError) × (result ≡ of_der r) × IsPageOfType name (λ p. p.items) octets r)
         (IsTreeTold octets result) };
 
     fn page_of(alloc: Global, kind: Kind, octets: &[u8]) -> Result<Page, PageError> {
@@ -135,8 +125,7 @@ impl Pages<Kind, PageError> for Everything {
             Kind::PasswordFrame => frame_page(alloc, octets),
             Kind::Keytab => keytab_page(alloc, octets),
             Kind::Ccache => ccache_page(alloc, octets),
-            Kind::Data(kind) => data_page(alloc, kind, octets),
-            Kind::Certificate(kind) => certificate_page(alloc, kind, octets),
+            Kind::Type(name) => type_page(alloc, name, octets),
             Kind::Tree => tree_page(alloc, octets),
         }
     }

@@ -3,7 +3,7 @@
 ghost use Rattle.std.specs.Prelude.{◌≡◌};
 ghost use Rattle.krb_show_any.specs.Kinds.{is_application, is_ccache, is_frame, is_keytab, is_negoex, is_per_message, is_token_tag, is_zeros, kind_of, kind_without_tag};
 
-use krb_show_pages::{CertificateKind, DataKind};
+use krb_show_pages::{is_message, is_part};
 
 /// What octets are.
 #[derive(Clone, Copy, PartialEq, Eq)]
@@ -22,10 +22,8 @@ pub enum Kind {
     Keytab,
     /// A credential cache of version 3 or 4 (MIT Kerberos, "Credential cache file format").
     Ccache,
-    /// A type that its first octet does not tell.
-    Data(DataKind),
-    /// A type of PKINIT or of CredSSP, which its first octet does not tell.
-    Certificate(CertificateKind),
+    /// A type that its first octet does not tell, by its name as its standard spells it: `type_of_name` of `krb_show_pages`.
+    Type(&'static str),
     /// Any octets, as elements by their tags and lengths alone (X.690, 8.1).
     Tree,
 }
@@ -34,14 +32,7 @@ pub enum Kind {
 pub fn is_application(octet: u8) -> bool
     ensures { result ≡ is_application octet }
 {
-    octet == 0x61
-        || (0x6a <= octet && octet <= 0x6f)
-        || octet == 0x75
-        || octet == 0x76
-        || octet == 0x7e
-        || octet == 0x62
-        || octet == 0x63
-        || (0x79 <= octet && octet <= 0x7d)
+    is_message(octet) || is_part(octet)
 }
 
 /// Whether a token of the GSS-API begins with this octet, which is one of a DER encoding.

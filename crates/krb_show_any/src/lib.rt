@@ -5,10 +5,7 @@
 //! `page_with_warnings` says that behind a page, and `page_with_unchecked` which PACs nobody checks.
 #![tactic(auto)]
 
-mod applications;
 mod broken;
-mod certificates;
-mod data;
 mod error;
 mod everything;
 mod exchanges;
@@ -26,10 +23,7 @@ mod tokens;
 mod unchecked;
 mod warnings;
 
-pub use applications::Applications;
 pub use broken::broken_rules_of;
-pub use certificates::Certificates;
-pub use data::Data;
 pub use error::PageError;
 pub use everything::Everything;
 pub use exchanges::Exchanges;

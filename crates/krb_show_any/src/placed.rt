@@ -1,16 +1,17 @@
 //! Pages with the places of elements.
 
 ghost use Rattle.std.specs.Prelude.{◌≡◌, [], ◌∷◌, ◌++◌, None, IfOk};
-ghost use Rattle.krb_show_any.specs.Placed.{IsPlacedBy, IsPlacedIn, IsPlacedPage, are_places, certificate_places, is_placed, is_same_text, within_choice};
+ghost use Rattle.krb_show_pages.specs.Pages.{is_reply};
+ghost use Rattle.krb_show_any.specs.Placed.{IsPlacedBy, IsPlacedIn, IsPlacedPage, are_places, is_placed, is_same_text, type_places, within_choice};
 
 use crate::kind::Kind;
-use crate::rows::{row_name, walk_octets};
+use crate::rows::{type_row, walk_octets};
 use krb_show::{
     Page, Place, Plain, Secrets, Token, Walk, place_tokens, places_by_row, push_items_with_places,
 };
 use krb_show_messages::{KerberosFormats, places_of_pac};
 use krb_show_negoex::places_of_negoex;
-use krb_show_pages::{CertificateKind, places_of_ccache, places_of_keytab};
+use krb_show_pages::{is_reply, places_of_ccache, places_of_keytab};
 use krb_show_text::text_of_page;
 use krb_show_tokens::kpasswd::places_of_password_frame;
 use krb_show_tokens::places_of_token;
@@ -53,36 +54,35 @@ fn within_struct(alloc: Global, found: &[Option<Place>]) -> Result<Vec<Option<Pl
     Ok(places)
 }
 
-/// The places of a type of PKINIT or of CredSSP by its row, as its page has them: that of a PA-PK-AS-REP is a struct of its alternative (RFC
-/// 4556, 3.2.3), which has no place of its own.
+/// The places of a type by its row, as its page has them: that of a PA-PK-AS-REP is a struct of its alternative (RFC 4556, 3.2.3), which has no place of its
+/// own.
 fn within_choice(
     alloc: Global,
-    kind: CertificateKind,
+    name: &str,
     found: Vec<Option<Place>>,
 ) -> Result<Vec<Option<Place>>, AllocError>
-    ensures { IfOk result (λ places. places.items ≡ within_choice kind found.items) }
+    ensures { IfOk result (λ places. places.items ≡ within_choice (is_reply name.now) found.items) }
 {
-    match kind {
-        CertificateKind::PaPkAsRep => within_struct(alloc, &found),
-        _ => Ok(found),
+    if is_reply(name) {
+        return within_struct(alloc, &found);
     }
+    Ok(found)
 }
 
-/// Where each token of the page of a type of PKINIT or of CredSSP stands: that of its row.
-fn places_of_certificate(
+/// Where each token of the page of a type stands: that of its row.
+fn places_of_type(
     alloc: Global,
-    kind: CertificateKind,
+    name: &'static str,
     octets: &[u8],
 ) -> Result<Vec<Option<Place>>, AllocError>
-    ensures { IfOk result (λ places. certificate_places kind octets.now places.items) }
+    ensures { IfOk result (λ places. type_places name.now octets.now places.items) }
 {
-    let row = row_name(Kind::Certificate(kind), octets);
-    let found = places_by_row::<KerberosFormats>(alloc, row, 0, octets)?;
-    within_choice(alloc, kind, found)
+    let found = places_by_row::<KerberosFormats>(alloc, type_row(name, octets), 0, octets)?;
+    within_choice(alloc, name, found)
 }
 
 /// Where in octets of a kind each token of their page stands, in the order of the tokens: of a format that is no DER, and of a
-/// type of PKINIT, whose page may name its outermost element otherwise than its row; none of other kinds.
+/// type that is named, whose page may name its outermost element otherwise than its row; none of other kinds.
 fn places_of(alloc: Global, kind: Kind, octets: &[u8]) -> Result<Vec<Option<Place>>, AllocError>
     ensures { IfOk result (λ places. are_places kind octets.now places.items) }
 {
@@ -93,8 +93,8 @@ fn places_of(alloc: Global, kind: Kind, octets: &[u8]) -> Result<Vec<Option<Plac
         Kind::PasswordFrame => places_of_password_frame(alloc, octets),
         Kind::Keytab => places_of_keytab(alloc, octets),
         Kind::Ccache => places_of_ccache(alloc, octets),
-        Kind::Certificate(kind) => places_of_certificate(alloc, kind, octets),
-        Kind::Application(_) | Kind::Data(_) | Kind::Tree => Ok(Vec::new(alloc)),
+        Kind::Type(name) => places_of_type(alloc, name, octets),
+        Kind::Application(_) | Kind::Tree => Ok(Vec::new(alloc)),
     }
 }
 

@@ -1,12 +1,12 @@
 //! Octets walked by the row of their kind.
 
 ghost use Rattle.std.specs.Prelude.{◌≡◌, IfOk};
-ghost use Rattle.krb_show_any.specs.Rows.{IsWalkOf, choice_row, row_name, token_row};
+ghost use Rattle.krb_show_any.specs.Rows.{IsWalkOf, choice_row, row_name, token_row, type_row};
 
 use crate::kind::Kind;
 use crate::names::name_of_kind;
 use krb_show::{Walk, walk_named};
-use krb_show_pages::CertificateKind;
+use krb_show_pages::is_reply;
 use std::alloc::{AllocError, Global};
 
 /// The name of the row of a token: that of the alternative of `NegotiationToken` (RFC 4178, 4.2) which the first octet tells, `a1` the
@@ -34,13 +34,24 @@ fn choice_row(octets: &[u8]) -> &'static str
     }
 }
 
+/// The name of the row of octets of a type: that of the type, but for PA-PK-AS-REP, which is a CHOICE.
+pub(crate) fn type_row(name: &'static str, octets: &[u8]) -> &'static str
+    ensures { result.now ≡ type_row name.now octets.now }
+{
+    if is_reply(name) {
+        choice_row(octets)
+    } else {
+        name
+    }
+}
+
 /// The name of the row of octets of a kind, if they have one: that of the kind, but for two types of alternatives.
-pub(crate) fn row_name(kind: Kind, octets: &[u8]) -> &'static str
+fn row_name(kind: Kind, octets: &[u8]) -> &'static str
     ensures { result.now ≡ row_name kind octets.now }
 {
     match kind {
         Kind::Token => token_row(octets),
-        Kind::Certificate(CertificateKind::PaPkAsRep) => choice_row(octets),
+        Kind::Type(name) => type_row(name, octets),
         _ => name_of_kind(kind),
     }
 }

@@ -1,2 +1,3 @@
 mod PlacesLemmas
 mod Plain
+mod Reasons

@@ -1,13 +1,17 @@
-//! Values of types that have a row, shown by it.
+//! Octets of types that have a row, read and shown by it; values of such types, shown by it.
 
-ghost use Rattle.std.specs.Prelude.{◌≡◌, IfOk, OnErr, OnOk};
+ghost use Rattle.std.specs.Prelude.{◌≡◌, IfErr, IfOk, OnErr, OnOk};
+ghost use Rattle.krb_der.specs.Whole.{NoDevice};
+ghost use Rattle.krb_show.specs.RowWalk.{IsWalkBy};
 ghost use Rattle.krb_show.specs.Tokens.{Begins, plain};
-ghost use Rattle.krb_show_messages.specs.Shown.{IsToldByRow, shows_of};
+ghost use Rattle.krb_show.specs.declared.rows.walk.Walk.TheVariants as walks;
+ghost use Rattle.krb_show_messages.specs.Shown.{IsPageByRow, IsRefusedBy, reason_of, shows_of};
 
 use crate::formats::KerberosFormats;
 use crate::rows::HasRow;
-use krb_der::{Asn1DerError, Der, DerEncode, encoding, from_bytes};
-use krb_show::{Label, Page, ShowFields, open, show_by_row, show_octets};
+use krb_der::{Asn1DerError, DerEncode, encoding};
+use krb_schema::{Fault, Item};
+use krb_show::{Page, Secrets, ShowFields, Walk, push_items, show_by_row, walk_named};
 use std::alloc::{AllocError, Global};
 
 /// Appends a value, called `text`, by its type's row. The page is as before where an allocation fails.
@@ -42,17 +46,49 @@ impl<'a, T: DerEncode + HasRow> ShowFields for RowField<'a, T> {
     }
 }
 
-/// The page of the value of this type whose encoding the octets are, called `text`. What is no encoding of a value of the type is refused as by
-/// `from_bytes`: with its first error, from the left. `Io` is never returned.
-pub fn page_as<T: Der + HasRow + Drop>(
+/// The error of DER that a fault is. A table that lacks a row, and elements that stand too deep in one another, are `InvalidData`; of the table of
+/// `krb_schema` there is neither.
+fn reason_of(fault: Fault) -> Asn1DerError
+    ensures { result ≡ reason_of fault }
+{
+    match fault {
+        Fault::Refused { why, .. } => why,
+        Fault::OutOfMemory => Asn1DerError::OutOfMemory,
+        Fault::NoRow | Fault::TooDeep { .. } => Asn1DerError::InvalidData,
+    }
+}
+
+/// The items of the one element, called `text`, that octets are by the row of this name in the table of `krb_schema`. Other octets are refused with the reason
+/// of their first fault, from the left; a name that no row has is `InvalidData`. `Io` is never returned.
+pub fn items_by_row(
     alloc: Global,
+    row: &'static str,
+    text: &'static str,
+    octets: &[u8],
+) -> Result<Vec<Item>, Asn1DerError>
+    ensures found { IfOk result (λ items. IsWalkBy row.now text.now octets.now (walks.Items items)) }
+    ensures refused { IfErr result (IsRefusedBy row.now text.now octets.now) }
+    ensures no_device { IfErr result NoDevice }
+{
+    match walk_named(alloc, row, text, octets)? {
+        Walk::Items(items) => Ok(items),
+        Walk::Fault(fault) => Err(reason_of(fault)),
+        Walk::NoRow => Err(Asn1DerError::InvalidData),
+    }
+}
+
+/// The page of the one element, called `text`, that octets are by the row of this name in the table of `krb_schema`, secrets shown. Other octets are refused
+/// as by `items_by_row`.
+pub fn page_by_row(
+    alloc: Global,
+    row: &'static str,
     text: &'static str,
     octets: &[u8],
 ) -> Result<Page, Asn1DerError>
-    ensures { IsToldByRow ⟦<T as DerEncode>⟧ T.row_name text.now (λ p. p.items) octets.now result }
+    ensures { IsPageByRow row.now text.now (λ p. p.items) octets.now result }
 {
-    let _value: T = from_bytes(alloc, octets)?;
+    let items = items_by_row(alloc, row, text, octets)?;
     let mut page = Vec::new(alloc);
-    show_by_row::<KerberosFormats>(alloc, T::row(), text, octets, &mut page)?;
+    push_items::<KerberosFormats>(alloc, Secrets::Shown, octets, &items, &mut page)?;
     Ok(page)
 }

@@ -1,11 +1,9 @@
 -- PA-PK-AS-REP (RFC 4556, 3.2.3), a CHOICE, under the names of its alternatives.
 use Rattle.std.specs.Prelude.{ℕ, nat_eq, Bool, true, false, List, [], ◌∷◌, Result, codes}
-use Rattle.krb_der_core.specs.declared.der.DerEncode.{Ghosts as EncodingOf}
 use Rattle.krb_der_core.specs.declared.error.Asn1DerError.{Asn1DerError}
 use Rattle.krb_show.specs.Pages.{struct_of}
-use Rattle.krb_show.specs.Told.{IsTold}
 use Rattle.krb_show.specs.Tokens.{Label, Token, plain}
-use Rattle.krb_show_messages.specs.Shown.{row_shown}
+use Rattle.krb_show_messages.specs.Shown.{IsRowPage, row_shown}
 
 -- the first octet is that of the second alternative
 abbrev pub is_pack : List ℕ → Bool
@@ -24,7 +22,14 @@ alternative_of octets = alternative (is_pack octets) octets
 abbrev pub reply_of : Label → List ℕ → List Token → List Token → Type 0
 reply_of label octets = struct_of label (alternative_of octets)
 
--- what is told of octets in its place
-abbrev pub IsReplyTold : {A P : Type 0} → EncodingOf A → (P → List Token) → List ℕ → Result P Asn1DerError → Type 0
-IsReplyTold encoding tokens octets result =
-    IsTold encoding.is_value encoding.enc encoding.first encoding.error (λ v. reply_of (plain (codes "PA-PK-AS-REP")) octets) tokens octets result
+-- what is answered of octets by the row of an alternative, called so
+abbrev pub IsReplyBy : {P : Type 0} → List ℕ → List ℕ → (P → List Token) → List ℕ → Result P Asn1DerError → Type 0
+IsReplyBy row text tokens octets result = IsRowPage row text (struct_of (plain (codes "PA-PK-AS-REP")) (row_shown row text octets)) tokens octets result
+
+abbrev pub by_alternative : {P : Type 0} → Bool → (P → List Token) → List ℕ → Result P Asn1DerError → Type 0
+by_alternative true tokens octets result = IsReplyBy (codes "PA-PK-AS-REP (encKeyPack)") (codes "encKeyPack") tokens octets result
+by_alternative false tokens octets result = IsReplyBy (codes "PA-PK-AS-REP (dhInfo)") (codes "dhInfo") tokens octets result
+
+-- what is answered of octets in its place: by the row of the alternative that the first octet tells
+abbrev pub IsReplyTold : {P : Type 0} → (P → List Token) → List ℕ → Result P Asn1DerError → Type 0
+IsReplyTold tokens octets result = by_alternative (is_pack octets) tokens octets result

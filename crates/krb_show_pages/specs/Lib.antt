@@ -1,11 +1,8 @@
 pub mod Told
-pub mod Kinds
-pub mod CertificateKinds
+pub mod Types
 pub mod Choices
+pub mod Pages
 pub mod Files
 pub mod CcachePlaces
 pub mod KeytabPlaces
 pub mod KeytabParts
-pub mod CertificatesTold
-pub mod DataTold
-pub mod MessagesTold

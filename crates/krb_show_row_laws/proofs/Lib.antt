@@ -46,3 +46,5 @@ pub mod PartRows
 pub mod MessageRows
 pub mod CertificateRows
 pub mod PublicKeyRows
+pub mod Taken
+pub mod ReplyRows

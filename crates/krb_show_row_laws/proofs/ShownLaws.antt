@@ -26,7 +26,8 @@ use Rattle.krb_show_row_laws.specs.Blocks.{Follow, HasHead, Heads, IsLeaf, IsStr
 use Rattle.krb_show_row_laws.specs.Firsts.{BeginsAs, First, Firsts, Kinds, apart_firsts, names_of, of_leaf, of_struct, openings}
 use Rattle.krb_show_row_laws.specs.Formats.{FormatsTell}
 use Rattle.krb_show_row_laws.specs.Kerberos.{every_row, every_type}
-use Rattle.krb_show_row_laws.specs.Laws.{IsElementBy, NamedTextTells}
+use Rattle.krb_show_messages.specs.Shown.{IsElementBy}
+use Rattle.krb_show_row_laws.specs.Laws.{NamedTextTells}
 use Rattle.krb_show_row_laws.specs.Tests.{firsts, fits, is_told}
 use Rattle.krb_show_row_laws.proofs.SplitLaws.{and_left, and_right}
 use Rattle.krb_show_row_laws.proofs.LineLaws.{one_lines}

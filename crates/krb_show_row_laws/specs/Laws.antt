@@ -14,9 +14,10 @@ use Rattle.krb_schema.specs.Types.{shapes, types}
 use Rattle.krb_schema.specs.Walks.{Walked}
 use Rattle.krb_show_text.specs.Text.{AreLines, page_lines, page_text}
 use Rattle.krb_show.specs.Tokens.{Label, Token}
+use Rattle.krb_show_messages.specs.Shown.{IsElementBy}
 use Rattle.krb_show_pages.specs.Choices.{is_pack, reply_of}
 use Rattle.krb_show.specs.Items.{shown, start}
-use Rattle.krb_show.specs.RowWalk.{AreItemsOf, IsShownByRow}
+use Rattle.krb_show.specs.RowWalk.{IsShownByRow}
 use Rattle.krb_show.specs.declared.rows.stand.Secrets.TheVariants as secrets
 use Rattle.krb_show_row_laws.specs.Telling.{is_name}
 use Rattle.krb_show_row_laws.specs.Firsts.{Kinds}
@@ -50,13 +51,6 @@ is_leaf_shape other = false
 -- the row of this name, if there is one, is none of these
 abbrev pub IsNoLeafRow : List ℕ → Type 0
 IsNoLeafRow row_name = (is : ℕ) → row_in types row_name ≡ Some is → is_leaf_shape (slice_get shapes is) ≡ false
-
--- the octets are an element of the row of this name, called so
-pub record IsElementBy (row_name text octets : List ℕ) : Type 0 where
-  pub is : ℕ
-  pub row : row_in types row_name ≡ Some is
-  pub items : List Item
-  pub are : AreItemsOf text is octets items
 
 -- Two inputs whose pages by the row of this name, called alike, have one text are the same octets: they may be no elements of the row, and shown as octets.
 abbrev pub NamedTextTells : (Role → List ℕ → Label → List ℕ → List Token → List Token → Type 0) → List ℕ → List ℕ → Type 0

@@ -1,6 +1,9 @@
--- That a type has the encodings that its row of the table allows.
-use Rattle.std.specs.Prelude.{◌≡◌, ℕ, List, [], Some}
+-- That a type has the encodings that its row of the table allows, and what that makes of answers by the row.
+use Rattle.std.specs.Prelude.{◌≡◌, ℕ, List, [], MatchResult, Result, Some, Vec}
+use Rattle.std.specs.declared.alloc.Global.{Global}
 use Rattle.krb_der_core.specs.Encoding.{IsOctets}
+use Rattle.krb_der_core.specs.declared.error.Asn1DerError.{Asn1DerError}
+use Rattle.krb_der_core.specs.declared.error.Asn1DerError.TheVariants as errors
 use Rattle.krb_der_core.specs.declared.der.DerEncode.{Ghosts as EncodingOf}
 use Rattle.krb_schema.specs.declared.shape.Name.{Name}
 use Rattle.krb_schema.specs.declared.shape.Schema.{Schema}
@@ -8,6 +11,9 @@ use Rattle.krb_schema.specs.Forests.{Forest, enc}
 use Rattle.krb_schema.specs.Named.{IsKerberos, row_in}
 use Rattle.krb_schema.specs.Shapes.{IsElement, IsNone}
 use Rattle.krb_schema.specs.Types.{types}
+use Rattle.krb_show.specs.Tokens.{Token}
+use Rattle.krb_show_messages.specs.Shown.{IsPageByRow}
+use Rattle.krb_show_pages.specs.Choices.{IsReplyTold}
 
 -- the octets are the encoding of a value
 abbrev pub IsEncoding : {A : Type 0} → EncodingOf A → List ℕ → Type 0
@@ -23,3 +29,19 @@ pub record IsRowOf {A : Type 0} (t : EncodingOf A) (schema : Schema) (row : ℕ)
 abbrev pub HasItsRow : {A : Type 0} → EncodingOf A → List ℕ → Type 0
 HasItsRow t row_name =
     (row : ℕ) × (row_in types row_name ≡ Some row) × ((schema : Schema) (name : Name) → IsKerberos schema → IsRowOf t schema row name)
+
+-- ---- answers
+
+-- a page is answered exactly if the octets are an encoding of the type, memory aside
+abbrev pub IsTaken : {A : Type 0} → EncodingOf A → List ℕ → Result (Vec Token Global) Asn1DerError → Type 0
+IsTaken t octets result = MatchResult result (λ page. IsEncoding t octets) (λ e. IsEncoding t octets → e ≡ errors.OutOfMemory)
+
+-- that is so of whatever is answered of octets by the row of this name
+abbrev pub RowTakesEncodings : {A : Type 0} → EncodingOf A → List ℕ → Type 0
+RowTakesEncodings t row = (text octets : List ℕ) (result : Result (Vec Token Global) Asn1DerError) → IsOctets octets
+    → IsPageByRow row text (λ p. p.items) octets result → IsTaken t octets result
+
+-- and of whatever is answered of octets in the place of a PA-PK-AS-REP (RFC 4556, 3.2.3), which this type is
+abbrev pub RepliesTakeEncodings : {A : Type 0} → EncodingOf A → Type 0
+RepliesTakeEncodings t = (octets : List ℕ) (result : Result (Vec Token Global) Asn1DerError) → IsOctets octets → IsReplyTold (λ p. p.items) octets result
+    → IsTaken t octets result

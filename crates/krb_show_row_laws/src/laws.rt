@@ -10,7 +10,7 @@ ghost use Rattle.krb_show_row_laws.specs.Formats.{FormatsTell};
 ghost use Rattle.krb_show_row_laws.specs.Laws.{IsNoLeafRow, IsReply, IsTold, IsToldAt, NamedElementsTell, NamedTextTells, ReplyTextTells, TextTellsOctets};
 ghost use Rattle.krb_show_row_laws.specs.Telling.{is_name};
 ghost use Rattle.krb_show_row_laws.specs.Texts.{TextTells};
-ghost use Rattle.krb_show_row_laws.specs.Ties.{HasItsRow};
+ghost use Rattle.krb_show_row_laws.specs.Ties.{HasItsRow, RepliesTakeEncodings, RowTakesEncodings};
 
 use krb_credssp::credssp::{
     TsCredentials, TsCspDataDetail, TsPasswordCreds, TsRemoteGuardCreds, TsRemoteGuardPackageCred,
@@ -166,4 +166,16 @@ pub fn rows_of_public_keys()
     ensures validation { HasItsRow ⟦<ValidationParams as DerEncode>⟧ (codes "ValidationParms") }
     ensures algorithm { HasItsRow ⟦<AlgorithmIdentifier as DerEncode>⟧ (codes "AlgorithmIdentifier") }
     ensures public_key { HasItsRow ⟦<SubjectPublicKeyInfo as DerEncode>⟧ (codes "SubjectPublicKeyInfo") }
+{}
+
+/// Where a row is a type's, octets have a page by the row exactly if they are an encoding of the type, memory aside: of each answer of `page_by_row`.
+#[tactic(auto, using(crate::proofs::Taken::row_takes))]
+pub fn pages_are_of_encodings<T: DerEncode>()
+    ensures { (row : List ℕ) → HasItsRow ⟦<T as DerEncode>⟧ row → RowTakesEncodings ⟦<T as DerEncode>⟧ row }
+{}
+
+/// Octets have a page in the place of a PA-PK-AS-REP (RFC 4556, 3.2.3) exactly if they are an encoding of one, memory aside: of each answer of
+/// `page_of_type` by that name.
+pub fn pages_of_replies_are_of_encodings()
+    ensures { RepliesTakeEncodings ⟦<PaPkAsRep as DerEncode>⟧ }
 {}

@@ -13,14 +13,14 @@ pub use krb_show_any::{
     place_of_error, warning_of,
 };
 pub use krb_show_messages::{
-    Certificate, HasRow, KerberosFormats, Message, RowField, page_of_pac, places_of_pac, show_pac,
-    show_value,
+    HasRow, KerberosFormats, Message, RowField, items_by_row, page_by_row, page_of_pac,
+    places_of_pac, show_pac, show_value,
 };
 pub use krb_show_negoex::{page_of_negoex, places_of_negoex};
 pub use krb_show_pages::{
-    CertificateKind, DataKind, FilePageError, page_of_ccache, page_of_certificate_data,
-    page_of_data, page_of_keytab, page_of_message, page_of_part, places_of_ccache,
-    places_of_keytab,
+    FilePageError, name_of_tag, page_of_application, page_of_ccache, page_of_keytab,
+    page_of_message, page_of_part, page_of_type, places_of_ccache, places_of_keytab, tag_of_name,
+    type_of_name,
 };
 pub use krb_show_text::{
     json_of_page, json_of_page_with_places, text_of_page, text_of_page_with_places,

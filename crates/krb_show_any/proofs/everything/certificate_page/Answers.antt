@@ -1,4 +1,0 @@
-use Rattle.krb_show_any.proofs.everything.certificate_page.Goals as goal
-
-pub returns : goal.returns
-returns c = (c.page_of.result, c.of_der.ensures, c.page_of.ensures)
