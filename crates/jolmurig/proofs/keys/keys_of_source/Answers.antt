@@ -9,5 +9,5 @@ pub returns-in-KeyFile-clause-rejected : goal.returns-in-KeyFile-clause-rejected
 returns-in-KeyFile-clause-rejected g c =
     subst (λ (s : Source). IfErr c.keys_of_key_file.result (λ e. (e ≡ failure.Memory) ⊎ IsNoSource (g.F.Files.gives c.args.files.now) c.args.number s e)) c.source.view_is
     (subst (λ (k : SourceKind). IfErr c.keys_of_key_file.result
-        (λ e. (e ≡ failure.Memory) ⊎ IsNoSource (g.F.Files.gives c.args.files.now) c.args.number (record { kind = k; text = c.source.inside.text.now }) e))
+    (λ e. (e ≡ failure.Memory) ⊎ IsNoSource (g.F.Files.gives c.args.files.now) c.args.number (record { kind = k; text = c.source.inside.text.now }) e))
     (sym c.in-KeyFile.is) c.keys_of_key_file.ensures.rejected)
