@@ -8,6 +8,7 @@ import time
 
 import krb
 from checks import expect
+from octets import octets_in
 from krb import _context as context_of
 from krb._window import SequenceWindow
 
@@ -335,5 +336,4 @@ def try_units(realm):
     try_window()
     try_names()
     try_terms()
-    with open(realm.keytab, "rb") as file:
-        try_refusals(file.read())
+    try_refusals(octets_in(realm.keytab))

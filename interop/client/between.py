@@ -10,7 +10,8 @@ import krb
 from changes import EACH, KINDS, Keys, Reply, without_fast
 from checks import expect, say
 from realm import REALM, SUITES
-from relay import Relay
+from refusals import rule_of
+from servers import Relay
 
 FIRST, FURTHER = "AS-REP", "TGS-REP"
 
@@ -28,15 +29,6 @@ class Changing:
         except Exception as error:  # a change that cannot be made fails the check, and not the relay's thread
             self.failed = error
             return reply
-
-
-def outcome(call):
-    """The name of the rule, or None where a ticket is granted."""
-    try:
-        call()
-        return None
-    except krb.NotGranted as refused:
-        return refused.rule.name
 
 
 def judged(title, changing, rule):
@@ -67,12 +59,12 @@ def try_between(realm, seed):
     for number in numbers:
         for message, call in calls.items():
             changing.made = None
-            judged("%s, %s, sealed again" % (message, SUITES[number]), changing, outcome(lambda: call(number)))
+            judged("%s, %s, sealed again" % (message, SUITES[number]), changing, rule_of(lambda: call(number)))
     for (message, kind), count in counts.items():
         changing.kind = dict(KINDS)[kind]
         for n in range(EACH):
             changing.made = changing.failed = None
-            rule = outcome(lambda: calls[message](numbers[n % len(numbers)]))
+            rule = rule_of(lambda: calls[message](numbers[n % len(numbers)]))
             judged("%s, %s" % (message, kind), changing, rule)
             count["all"] += 1
             if changing.made is not None:

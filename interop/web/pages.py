@@ -2,13 +2,12 @@
 
 import base64
 import calendar
-import hashlib
-import hmac
 import json
 import re
 import struct
 
 from checks import expect, say
+from ciphers import key_of_password
 from der import element, integer, name, sequence, text
 from given import buffers, checksums, error_with, misleading, opened, pages
 from keytabs import keytab_of_texts
@@ -61,12 +60,6 @@ return [...document.querySelectorAll("#tree li")].map((item) => {
         document.getElementById("source").value];
 });
 """
-
-
-def key_of(password, salt):
-    """The key of type 20 of a password (RFC 8009, 4 and 3), by hashlib."""
-    first = hashlib.pbkdf2_hmac("sha384", password, b"aes256-cts-hmac-sha384-192\0" + salt, 32768, 32)
-    return hmac.new(first, b"\0\0\0\1kerberos\0" + (256).to_bytes(4, "big"), hashlib.sha384).digest()[:32]
 
 
 def shown(browser, octets, kind="", keytabs=(), keys="", password="", salt="", show=False, form="hex"):
@@ -347,7 +340,7 @@ def try_password(browser):
     part = element(0x63, sequence((0, [3, bytes(5)]), (1, key), (2, text("HOME.TEST")), (3, name(1, "ann")), (4, transited), (5, time), (7, time)))
 
     def ticket(salt):
-        sealed = krb.messages.seal(krb.messages.Part.TICKET_PART, 20, key_of(b"a password", salt), 2, part)
+        sealed = krb.messages.seal(krb.messages.Part.TICKET_PART, 20, key_of_password(20, b"a password", salt), 2, part)
         encrypted = sequence((0, integer(20)), (1, integer(1)), (2, [4, sealed]))
         return element(0x61, sequence((0, integer(5)), (1, text("HOME.TEST")), (2, name(2, "HTTP", "www.home.test")), (3, encrypted)))
 
