@@ -229,7 +229,7 @@ def json_without_contents(value):
 
 def names_of(keys):
     """What the page calls the keys that it is given, by their names in a row, as they stand in quotation marks."""
-    return {quoted_as(key.split(":", 2)[2].encode())[1:-1]: "key %d" % (number + 1) for number, key in enumerate(keys)}
+    return {quoted_as(key.split(":", 2)[2].encode())[1:-1]: "key %d@given kvno 1" % (number + 1) for number, key in enumerate(keys)}
 
 
 def try_opened(browser):
@@ -346,7 +346,7 @@ def try_password(browser):
 
     default = ticket(b"HOME.TESTHTTPwww.home.test")
     told = shown(browser, default, password="a password")
-    wanted = ['    opened-by: "the password, salt HOME.TESTHTTPwww.home.test"', '      crealm: "HOME.TEST"']
+    wanted = ['    opened-by: "the password, salt HOME.TESTHTTPwww.home.test@given kvno 1"', '      crealm: "HOME.TEST"']
     expect(all(each in told["lines"] for each in wanted), "a password with the default salt: %s" % told["lines"][-12:])
     try_hidden("a password", told, [bytes(range(100, 116)).hex()])
     expect(bytes(range(100, 116)).hex() in "".join(shown(browser, default, password="a password", show=True)["lines"]), "a key is hidden that was asked for")
@@ -355,7 +355,7 @@ def try_password(browser):
     other = ticket(b"a salt of one's own")
     expect(any("not-opened" in line for line in shown(browser, other, password="a password")["lines"]), "a password opens what another salt made")
     told = shown(browser, other, password="a password", salt="a salt of one's own")
-    expect('    opened-by: "the password, salt a salt of one\'s own"' in told["lines"], "a password with a salt: %s" % told["lines"][-3:])
+    expect('    opened-by: "the password, salt a salt of one\'s own@given kvno 1"' in told["lines"], "a password with a salt: %s" % told["lines"][-3:])
     told = shown(browser, error_with(b"X"), password="a password")
     expect(any("Nothing here is encrypted" in each for each in told["notes"]), "a password with nothing to open: %s" % told["notes"])
     say("passwords: done")
