@@ -209,6 +209,13 @@ def judge_part(session, title, entry, credential):
     session.secrets.add(part["key"]["keyvalue"])
 
 
+def unopened(entry, keys):
+    """Why no key opens a ticket by its encryption type; None where one may."""
+    if entry["tkt"] not in SUITES:
+        return {"not-opened": NO_SUITE}
+    return None if entry["tkt"] in [key["keytype"] for key in keys] else {"not-opened": NO_KEY}
+
+
 def opened_of(part):
     """What is told of what keys open."""
     return {name: part[name] for name in ("opened-by", "key-usage", "not-opened") if name in part}

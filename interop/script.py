@@ -8,6 +8,7 @@ import random
 import shutil
 import subprocess
 import sys
+import threading
 
 from checks import NAME
 
@@ -95,6 +96,22 @@ def library_of(options, folder):
     """The library's file, by its own path or by that of the folder into which it is installed."""
     found = prefix_of(options, folder)
     return os.path.join(found, "lib", "libkrbc.so.2") if os.path.isdir(found) else found
+
+
+def at_once(count, call):
+    """What so many threads get of a call that they make at once."""
+    got, barrier = [], threading.Barrier(count)
+
+    def go():
+        barrier.wait()
+        got.append(call())
+
+    threads = [threading.Thread(target=go) for _ in range(count)]
+    for each in threads:
+        each.start()
+    for each in threads:
+        each.join()
+    return got
 
 
 def with_library(environment, library):

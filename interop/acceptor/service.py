@@ -2,7 +2,6 @@
 
 import re
 import shutil
-import threading
 import time
 
 import krb
@@ -12,6 +11,7 @@ from der import field, put
 from keytabs import keys_of
 from octets import octets_in
 from refusals import refusal_of, rule_of
+from script import at_once
 from sealing import Request
 from units import in_child, raised
 
@@ -108,17 +108,8 @@ def try_threads(keytab):
     """Of eight threads with one token, one lets the client in."""
     acceptor = krb.Acceptor(keytab, replay_cache=krb.ReplayCache(None))
     for n in range(20):
-        token, rules, barrier = token_of(), [], threading.Barrier(8)
-
-        def go():
-            barrier.wait()
-            rules.append(rule(acceptor, token) or "in")
-
-        threads = [threading.Thread(target=go) for _ in range(8)]
-        for each in threads:
-            each.start()
-        for each in threads:
-            each.join()
+        token = token_of()
+        rules = at_once(8, lambda: rule(acceptor, token) or "in")
         expect(sorted(rules) == ["REPEAT"] * 7 + ["in"], "eight threads: %s" % rules)
 
 

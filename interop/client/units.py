@@ -3,13 +3,13 @@
 import os
 import pickle
 import sys
-import threading
 
 import krb
 from checks import expect, say
 from krb import __main__ as command
 from krb import _ccache, _configuration, _dns, _exchange, _kdc, _names, _times
 from refusals import rule_of
+from script import at_once
 
 
 def raises(kind, call):
@@ -140,13 +140,9 @@ def try_times():
     def draw(count, clock, *offsets):
         given.extend([_times.moment(clock, offset) for _ in range(count) for offset in offsets])
 
-    threads = [threading.Thread(target=draw, args=(500, lambda: now[0], 0, 3, -2)) for _ in range(8)]
     usual = sys.getswitchinterval()
     sys.setswitchinterval(1e-6)  # threads take turns within a call, so that what is not locked is seen
-    for each in threads:
-        each.start()
-    for each in threads:
-        each.join()
+    at_once(8, lambda: draw(500, lambda: now[0], 0, 3, -2))
     sys.setswitchinterval(usual)
     expect(max(given) < (1795763475, 0) and min(given) == (1795763468, 250000), "a clock that stands: %s to %s" % (min(given), max(given)))
     now[0] -= 5000
