@@ -76,6 +76,34 @@ SAME = """
     whole ∙ ap (λ (o : List ℕ). tlv 48 ({but_last})) (sym (append-nil ({last})))"""
 
 
+# The reader of a codec, @.
+READER = """\
+-- ---- {title}
+
+abbrev pub @_read : Fields
+@_read = {fields}
+
+abbrev pub @_parts : {type} → (@_read).value
+@_parts v = {parts}
+
+abbrev pub @_reader : Reader
+@_reader = sequence @_read @_parts
+
+pub @_refused : (schema : Schema) (k : IsKerberos schema) (levels : ℕ) → FaultTie schema k {depth} {row} @_reader
+unfolding cases fields shapes
+@_refused schema k levels =
+    sequence_refused schema k {depth_of_fields} {row} {first} {count} _ @_read @_parts @ (λ x. x) refl (lit≤ tt) refl
+    (@_tie schema k levels) @_right @_same
+{ties}
+"""
+
+# How proofs begin a line within an answer.
+NEXT = "\n    "
+
+# How fields in order are called, by their number.
+IN_ORDER = ["", "", "pair", "triple", "four", "five", "six"]
+
+
 class NoRule(Exception):
     """A proof follows by no rule that is here."""
 
@@ -101,6 +129,10 @@ class Content:
     def octets(self, v):
         return f"{self.word} {v}"
 
+    def reader(self):
+        """What reads it."""
+        return self.codec
+
     def same(self, v):
         """Why its octets are those of its codec, where the two are not one text."""
         return ""
@@ -123,6 +155,10 @@ class Leaf(Content):
 
     def tie(self, left, say):
         return f"{self.word_of_tie} schema k {say(left - 1)} {self.row} {self.given}"
+
+    def refused(self, left, say):
+        """That its fault is the first error of what reads it, as `tie`."""
+        return self.tie(left, say).replace("_tie ", "_refused ", 1)
 
 
 class Under(Leaf):
@@ -163,6 +199,15 @@ class Tagged(Content):
         about = f"{say(left - 1)} {self.row} {self.tag} {self.inner.row}"
         return f"tagged_tie schema k {about} _ refl ({self.inner.tie(left - 1, say)})"
 
+    def reader(self):
+        return f"(application {self.tag - 96} {self.inner.reader()})"
+
+    def refused(self, left, say):
+        about = f"{say(left - 1)} {self.row} {self.tag - 96} {self.inner.row}"
+        why = "refl (lit≤ tt) refl"
+        inner = self.inner.refused(left - 1, say)
+        return f"application_refused schema k {about} _ {why} ({inner})"
+
     def same(self, v):
         return f"(ap (tlv {self.tag}) {self.inner.same(v)})"
 
@@ -189,6 +234,14 @@ class ListOf(Content):
     def tie(self, left, say):
         about = f"{say(left - 1)} {self.row} {self.inner.row} {self.is_some}"
         return f"list_tie schema k {about} _ refl ({self.inner.tie(left - 1, say)})"
+
+    def reader(self):
+        return f"(sequence_of {self.inner.reader()})"
+
+    def refused(self, left, say):
+        about = f"{say(left - 1)} {self.row} {self.inner.row} {self.is_some}"
+        inner = self.inner.refused(left - 1, say)
+        return f"list_refused schema k {about} _ refl ({inner})"
 
     def same(self, v):
         inner = self.inner.same("x0")
@@ -247,6 +300,17 @@ class Field:
         why = " refl" if self.is_optional else ""
         why += "" if self.is_tagged else " (λ x v. tlv_begins _ _)"
         return f"{self.word}_tie schema k _ _ _ _ _ _ _ _ _{why} {inner}"
+
+    def reader(self):
+        inner = self.content.reader()
+        inner = f"(explicit {self.tag} {inner})" if self.is_tagged else inner
+        return f"{'maybe' if self.is_optional else 'one'} {inner}"
+
+    def refused(self, left):
+        """That the fault of the field, or of what is behind it, is the first error, as `tie`."""
+        why = "" if self.is_tagged else " (λ t. refl)"
+        inner = self.content.refused(left, sucs)
+        return f"{self.word}_refused schema k _ _ _ _ _ _ _ _{why} ({inner})"
 
     def each(self, text):
         """The text of v, of each value where the field may be absent."""
@@ -330,6 +394,12 @@ class Struct(Content):
 
     def right(self, v, h):
         return f"({self.codec}_right {v} {h})"
+
+    def reader(self):
+        return f"{self.codec}_reader"
+
+    def refused(self, left, say):
+        return f"{self.codec}_refused schema k {say(left - self.depth)}"
 
     def answers(self):
         return f"{self.codec}_same", f"{self.codec}_valid", f"{self.codec}_right"
@@ -422,4 +492,36 @@ class Struct(Content):
         )
         if self.tag:
             text += UNDER_TAG.format(type=self.type, tag=self.tag, number=self.tag - 96)
+        return text.replace("@", self.codec)
+
+    def in_order(self, parts, words, sign):
+        """Parts, one a field, in tuples as the fields' types are, each behind a word by how many it
+        has."""
+        parts = iter(parts)
+        groups = [[next(parts) for _ in group] for group in self.groups]
+        rows = [sign.join([words[len(it)], *it] if len(it) > 1 else it) for it in groups]
+        if len(rows) == 1:
+            return rows[0]
+        return sign.join([words[len(rows)], *(f"({it})" for it in rows)])
+
+    def reader_text(self):
+        """What reads it, and that its first error is that of its row."""
+        fields = [it.reader() for it in self.fields]
+        names = [f"v.{it.name}" for it in self.fields]
+        ties = [it.refused(self.depth - 1) for it in self.fields]
+        if len(self.fields) > 1:
+            fields, ties = [f"({it})" for it in fields], [f"({it})" for it in ties]
+        blanks = [f"{it}_refused schema k _{' _' * (2 * at + 1)}" for at, it in enumerate(IN_ORDER)]
+        text = READER.format(
+            title=self.title,
+            type=self.type,
+            row=self.row,
+            first=self.first,
+            count=len(self.fields),
+            depth=sucs(self.depth),
+            depth_of_fields=sucs(self.depth - 1),
+            fields=self.in_order(fields, IN_ORDER, " "),
+            parts=names[0] if len(names) == 1 else f"({self.grouped(names, ', ')})",
+            ties=f"    ({self.in_order(ties, blanks, NEXT)})",
+        )
         return text.replace("@", self.codec)

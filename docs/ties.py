@@ -37,6 +37,14 @@ FILES = {
         " themselves, or in a tag in place of their own.",
     ),
 }
+# The file of what reads the types of a law, beside that of their codecs, and what its first line says.
+READS = {
+    "rows_of_data_types": ("DataTypeErrors", "Data types as readers"),
+    "rows_of_parts": ("PartErrors", "Encrypted parts as readers"),
+    "rows_of_messages": ("MessageErrors", "Messages as readers"),
+    "rows_of_certificates": ("CertificateErrors", "Types of PKINIT, PKU2U and CredSSP as readers"),
+    "rows_of_public_keys": ("PublicKeyErrors", "Types of PKINIT, PKU2U and X.509 as readers"),
+}
 # Two orders that follow from nothing, and stay as they were proved: what stands before a codec that
 # does not need it, and what a file imports before the codecs of earlier rows.
 STANDS_BEFORE = {"dh_auth_pack": "subject_public_key_info"}
@@ -96,7 +104,37 @@ USES_OF_ANSWERS = [
     ("Rattle.krb_schema.specs.Types", "shapes, types"),
     (f"{PROOFS}.Codecs", "sequence_of, tagged"),
     (f"{PROOFS}.CodecRows", "all_as, flat_map_same, list_tie, tagged_tie"),
+    (f"{PROOFS}.Readers", "application, sequence_of as list_of"),
+    (f"{PROOFS}.FaultRows", "application_refused, list_refused"),
     (f"{PROOFS}.TiedTypes", "tied"),
+]
+USES_OF_READERS = [
+    ("Rattle.std.proofs.Common", "ℕ, ℤ, suc, true, false, refl, List, lit≤"),
+    ("Rattle.krb_der_core.specs.BitString", "Bits"),
+]
+USES_OF_READERS_BEHIND = [
+    ("Rattle.krb_schema.specs.declared.shape.Schema", "Schema"),
+    ("Rattle.krb_schema.specs.Named", "IsKerberos"),
+    ("Rattle.krb_schema.specs.Types", "cases, fields, shapes"),
+    (
+        f"{PROOFS}.Readers",
+        "Fields, Reader, any, application, bits, explicit, five, four, identifier, integer, maybe,"
+        " octets, octets_under, one, pair, sequence, sequence_of, six, text, time, triple, truth,"
+        " unsigned",
+    ),
+    (f"{PROOFS}.FaultRows", "FaultTie, application_refused, list_refused"),
+    (
+        f"{PROOFS}.FaultFields",
+        "bare_refused, five_refused, four_refused, maybe_bare_refused, maybe_refused, pair_refused,"
+        " required_refused, sequence_refused, six_refused, triple_refused",
+    ),
+    (
+        f"{PROOFS}.FaultLeaves",
+        "any_refused, bits_refused, cipher_refused, component_refused, flags_refused,"
+        " holding_refused, identifier_refused, integer_refused, microseconds_refused,"
+        " number_refused, octets_refused, octets_under_refused, secret_refused, text_refused,"
+        " time_refused, truth_refused, unsigned_refused",
+    ),
 ]
 # What files import of a codec @.
 IMPORTED = "tagged_@_octets tagged_@_value @ @_tie @_octets @_same @_value @_valid @_right".split()
@@ -117,7 +155,7 @@ returns-clause-{clause} c = tied {codec} (codes "{name}") {row} refl (λ schema 
   enc_of = {same};
   valid_to = {valid};
   valid_of = {right};
-}})
+}}) (λ schema k. {refused})
 """
 
 Clause = collections.namedtuple("Clause", "law name type row")
@@ -354,6 +392,30 @@ def codecs_text(types, law):
     return f"-- {about}\n{''.join(lines)}\n{text}"
 
 
+def uses_of_readers(words, types, structs):
+    """A line a file, for what is named of what reads these."""
+    for law, (file, _) in READS.items():
+        codecs = [it.codec for it in structs if types.laws[it.row] == law]
+        names = [f"{it}{end}" for it in codecs for end in ("_reader", "_refused")]
+        yield from uses(words, [(f"{PROOFS}.{file}", ", ".join(names))])
+
+
+def readers_text(types, law):
+    """The file of what reads the types of a law."""
+    file, about = READS[law]
+    structs = types.ordered(law)
+    text = "\n".join(it.reader_text() for it in structs)
+    words, declared = words_of(text), types.sources.structs
+    named = {it for struct in structs for it in re.findall(r"\w+", struct.type) if it in declared}
+    paths = sorted((declared[it].path, it) for it in named)
+    needed = {it for struct in structs for it in struct.needs() if types.laws[it.row] != law}
+    others = sorted(needed, key=lambda it: it.row)
+    lines = [*uses(words, [*USES_OF_READERS, *paths, *USES_OF_READERS_BEHIND])]
+    lines += uses_of_codecs(words, types, sorted(structs, key=lambda it: it.row))
+    lines += uses_of_readers(words, types, others)
+    return f"-- {about}, and their first errors.\n{''.join(lines)}\n{text}"
+
+
 def answers_text(types, law):
     """The answers to a law's clauses."""
     answers, structs = [], set()
@@ -364,6 +426,7 @@ def answers_text(types, law):
             same, valid, right = content.answers()
             structs.update(content.structs)
             about = {"same": same, "valid": valid, "right": right, "tie": content.tie(LEVELS, str)}
+            about["refused"] = content.refused(LEVELS, str).replace("(sequence_of ", "(list_of ")
             answers.append(
                 ANSWER.format(clause=it.name, codec=content.codec, name=it.row, row=row, **about)
             )
@@ -371,6 +434,7 @@ def answers_text(types, law):
     words, goals = words_of(text), f"{PROOFS}.laws.{law}.Goals as goal"
     structs = sorted(structs, key=lambda it: it.row)
     lines = [*uses(words, USES_OF_ANSWERS), *uses_of_codecs(words, types, structs)]
+    lines += uses_of_readers(words, types, structs)
     return f"{''.join(lines)}use {goals}\n\n{text}"
 
 
@@ -380,5 +444,6 @@ def files_of(table):
     files = {}
     for law, (file, _) in FILES.items():
         files[CRATE / "proofs" / f"{file}.antt"] = codecs_text(types, law)
+        files[CRATE / "proofs" / f"{READS[law][0]}.antt"] = readers_text(types, law)
         files[CRATE / "proofs" / "laws" / law / "Answers.antt"] = answers_text(types, law)
     return files

@@ -50,13 +50,13 @@ apart_tags tag other o differ a b = differ (sym (same a.0 tag a.3) ∙ ap (λ (l
 
 -- ---- a field by itself, of this row
 
-record IsBare (field : Field) (tag : Option ℕ) (optional : Bool) (is : ℕ) : Type 0 where
-  in_tag : field.tag ≡ tag
-  no_wrap : field.wrapped ≡ false
-  may_be : field.optional ≡ optional
-  of_row : field.is ≡ is
+pub record IsBare (field : Field) (tag : Option ℕ) (optional : Bool) (is : ℕ) : Type 0 where
+  pub in_tag : field.tag ≡ tag
+  pub no_wrap : field.wrapped ≡ false
+  pub may_be : field.optional ≡ optional
+  pub of_row : field.is ≡ is
 
-is_bare : (field : Field) (tag : Option ℕ) (optional : Bool) (text : List ℕ) (kind : Option Kind) (role : Role) (is : ℕ)
+pub is_bare : (field : Field) (tag : Option ℕ) (optional : Bool) (text : List ℕ) (kind : Option Kind) (role : Role) (is : ℕ)
     → field_row field ≡ (tag, false, optional, text, kind, role, is) → IsBare field tag optional is
 is_bare field tag optional text kind role is e =
     record { in_tag = ap (λ (r : Row). r.0) e; no_wrap = ap (λ (r : Row). r.1) e; may_be = ap (λ (r : Row). r.2) e; of_row = ap (λ (r : Row). r.6) e }

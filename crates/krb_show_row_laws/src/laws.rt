@@ -10,7 +10,7 @@ ghost use Rattle.krb_show_row_laws.specs.Formats.{FormatsTell};
 ghost use Rattle.krb_show_row_laws.specs.Laws.{IsNoLeafRow, IsReply, IsTold, IsToldAt, NamedElementsTell, NamedTextTells, ReplyTextTells, TextTellsOctets};
 ghost use Rattle.krb_show_row_laws.specs.Telling.{is_name};
 ghost use Rattle.krb_show_row_laws.specs.Texts.{TextTells};
-ghost use Rattle.krb_show_row_laws.specs.Ties.{HasItsRow, RepliesTakeEncodings, RowTakesEncodings};
+ghost use Rattle.krb_show_row_laws.specs.Ties.{HasItsRow, PagesHaveErrors, RepliesHaveErrors, RepliesTakeEncodings, RowHasErrors, RowTakesEncodings};
 
 use krb_credssp::credssp::{
     TsCredentials, TsCspDataDetail, TsPasswordCreds, TsRemoteGuardCreds, TsRemoteGuardPackageCred,
@@ -83,7 +83,8 @@ pub fn texts_of_headers_tell_values()
     ensures { TextTells ⟦<IAKerbHeader as DerEncode>⟧ ⟦<IAKerbHeader as Show<Message>>⟧ }
 {}
 
-/// The rows of the types that messages share, and of pre-authentication (RFC 4120, 5.2 and 5.3), allow the encodings of these types and no others.
+/// The rows of the types that messages share, and of pre-authentication (RFC 4120, 5.2 and 5.3), allow the encodings of these types and no others, and the
+/// first fault of others is the type's first error.
 pub fn rows_of_data_types()
     ensures principal_name { HasItsRow ⟦<PrincipalName as DerEncode>⟧ (codes "PrincipalName") }
     ensures host_address { HasItsRow ⟦<HostAddress as DerEncode>⟧ (codes "HostAddress") }
@@ -107,7 +108,8 @@ pub fn rows_of_data_types()
     ensures method_data { HasItsRow ⟦<Asn1SequenceOf<PaData> as DerEncode>⟧ (codes "METHOD-DATA") }
 {}
 
-/// The rows of the encrypted parts of tickets, of requests and of replies of a server (RFC 4120, 5.3 to 5.8) allow the encodings of these types and no others.
+/// The rows of the encrypted parts of tickets, of requests and of replies of a server (RFC 4120, 5.3 to 5.8) allow the encodings of these types and no others,
+/// and the first fault of others is the type's first error.
 pub fn rows_of_parts()
     ensures authenticator { HasItsRow ⟦<Authenticator as DerEncode>⟧ (codes "Authenticator") }
     ensures enc_ticket_part { HasItsRow ⟦<EncTicketPart as DerEncode>⟧ (codes "EncTicketPart") }
@@ -117,7 +119,8 @@ pub fn rows_of_parts()
     ensures krb_cred_info { HasItsRow ⟦<KrbCredInfo as DerEncode>⟧ (codes "KrbCredInfo") }
 {}
 
-/// The rows of messages, and of the parts of replies of a KDC (RFC 4120, 5.4 to 5.9; MS-KKDCP, 2.2.2), allow the encodings of these types and no others.
+/// The rows of messages, and of the parts of replies of a KDC (RFC 4120, 5.4 to 5.9; MS-KKDCP, 2.2.2), allow the encodings of these types and no others, and
+/// the first fault of others is the type's first error.
 pub fn rows_of_messages()
     ensures as_req { HasItsRow ⟦<AsReq as DerEncode>⟧ (codes "AS-REQ") }
     ensures as_rep { HasItsRow ⟦<AsRep as DerEncode>⟧ (codes "AS-REP") }
@@ -136,7 +139,8 @@ pub fn rows_of_messages()
     ensures proxy_message { HasItsRow ⟦<KdcProxyMessage as DerEncode>⟧ (codes "KDC-PROXY-MESSAGE") }
 {}
 
-/// The rows of types of PKINIT (RFC 4556), PKU2U (draft-zhu-pku2u) and CredSSP (MS-CSSP, 2.2.1.2) allow the encodings of these types and no others.
+/// The rows of types of PKINIT (RFC 4556), PKU2U (draft-zhu-pku2u) and CredSSP (MS-CSSP, 2.2.1.2) allow the encodings of these types and no others, and the
+/// first fault of others is the type's first error.
 pub fn rows_of_certificates()
     ensures pku2u_body { HasItsRow ⟦<Pku2uNegoBody as DerEncode>⟧ (codes "PKU2U-NEGO-BODY") }
     ensures krb_finished { HasItsRow ⟦<KrbFinished as DerEncode>⟧ (codes "KRB-FINISHED") }
@@ -151,7 +155,7 @@ pub fn rows_of_certificates()
 {}
 
 /// The rows of types of PKINIT (RFC 4556, RFC 5349), PKU2U and X.509 (RFC 5280, RFC 3279) that have fields by themselves, or in an IMPLICIT tag, allow the
-/// encodings of these types and no others.
+/// encodings of these types and no others, and the first fault of others is the type's first error.
 pub fn rows_of_public_keys()
     ensures metadata { HasItsRow ⟦<Pku2uNegoReqMetadata as DerEncode>⟧ (codes "PKU2U-NEGO-REQ-METADATA") }
     ensures nego_req { HasItsRow ⟦<Pku2uNegoReq as DerEncode>⟧ (codes "PKU2U-NEGO-REQ") }
@@ -174,8 +178,20 @@ pub fn pages_are_of_encodings<T: DerEncode>()
     ensures { (row : List ℕ) → HasItsRow ⟦<T as DerEncode>⟧ row → RowTakesEncodings ⟦<T as DerEncode>⟧ row }
 {}
 
+/// Where a row is a type's, octets that are refused by the row are refused with the first error that `from_bytes` of the type has of them, memory aside: of
+/// each answer of `items_by_row`, and of `page_by_row`.
+pub fn errors_are_of_types<T: DerEncode>()
+    ensures refused { (row : List ℕ) → HasItsRow ⟦<T as DerEncode>⟧ row → RowHasErrors ⟦<T as DerEncode>⟧ row }
+    ensures pages { (row : List ℕ) → HasItsRow ⟦<T as DerEncode>⟧ row → PagesHaveErrors ⟦<T as DerEncode>⟧ row }
+{}
+
 /// Octets have a page in the place of a PA-PK-AS-REP (RFC 4556, 3.2.3) exactly if they are an encoding of one, memory aside: of each answer of
 /// `page_of_type` by that name.
 pub fn pages_of_replies_are_of_encodings()
     ensures { RepliesTakeEncodings ⟦<PaPkAsRep as DerEncode>⟧ }
+{}
+
+/// Octets that are refused in the place of a PA-PK-AS-REP (RFC 4556, 3.2.3) are refused with the first error that `from_bytes` has of them, memory aside.
+pub fn errors_of_replies_are_of_types()
+    ensures { RepliesHaveErrors ⟦<PaPkAsRep as DerEncode>⟧ }
 {}

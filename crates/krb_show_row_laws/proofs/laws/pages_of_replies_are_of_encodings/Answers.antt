@@ -13,4 +13,6 @@ returns c = reply_takes {t = ghosts} (record {
   pack_enc = λ v. refl;
   pack_to = λ v h. h.0;
   pack_of = λ v h. (h, refl);
+  firsts = λ u. refl;
+  error_of = λ u content e h. h;
 })
