@@ -1,6 +1,6 @@
 //! Blocks, and their modes.
 
-use crate::crypto::row::{Answer, Row, answer_of, block_of, copied, size_of};
+use crate::crypto::row::{Answer, Row, answer_of, block_of, copied, size_of, text_of};
 use krb_crypto_aes_tables::agree;
 use picky_krb::crypto::KerberosCryptoResult;
 use picky_krb::crypto::aes::{
@@ -10,44 +10,54 @@ use picky_krb::crypto::aes::{
 use picky_krb::crypto::des::{DesKey, decrypt_des, encrypt_des};
 use std::alloc::Global;
 
-/// What AES by vector permutes makes of a block, and whether AES by word tables makes another of it in either direction.
-fn by_aes(
-    alloc: Global,
-    row: &Row,
-    size: &AesSize,
-    block: [u8; 16],
-) -> KerberosCryptoResult<String> {
+/// What AES by vector permutes makes of a block; `None` where AES by word tables makes another of it in either direction.
+fn by_aes(row: &Row, size: &AesSize, block: [u8; 16]) -> KerberosCryptoResult<Option<[u8; 16]>> {
     let permutes = AesKey::new(&row.key, size)?;
     let tables = AesTableKey::new(&row.key, size)?;
-    let made = if row.call == "encrypt_block" {
+    if !agree(&tables, &permutes, block) {
+        return Ok(None);
+    }
+    Ok(Some(if row.call == "encrypt_block" {
         permutes.encrypt_block(block)
     } else {
         permutes.decrypt_block(block)
-    };
-    let mut text = hex::encode(alloc, &made)?;
-    if !agree(&tables, &permutes, block) {
-        text.push_str(", and another by word tables")?;
-    }
-    Ok(text)
+    }))
 }
 
 /// What triple DES makes of a block.
-fn by_des(alloc: Global, row: &Row, block: [u8; 8]) -> KerberosCryptoResult<String> {
+fn by_des(row: &Row, block: [u8; 8]) -> KerberosCryptoResult<Option<[u8; 8]>> {
     let key = DesKey::new(&row.key)?;
-    let made = if row.call == "encrypt_block" {
+    Ok(Some(if row.call == "encrypt_block" {
         key.encrypt_block(block)
     } else {
         key.decrypt_block(block)
-    };
-    Ok(hex::encode(alloc, &made)?)
+    }))
 }
 
-/// Calls of a block (FIPS 197, FIPS 46-3).
-pub fn try_block(alloc: Global, row: &Row) -> Answer {
-    if row.suite == "des3" {
-        return Some(by_des(alloc, row, block_of(&row.input)?));
+/// What is printed of a block.
+fn block_text<const SIZE: usize>(
+    alloc: Global,
+    made: KerberosCryptoResult<Option<[u8; SIZE]>>,
+) -> Answer {
+    match made {
+        Ok(Some(block)) => text_of(hex::encode(alloc, &block)),
+        Ok(None) => text_of(String::from_str(alloc, "another by word tables")),
+        Err(rejection) => Some(Err(rejection)),
     }
-    Some(by_aes(alloc, row, &size_of(row.suite)?, block_of(&row.input)?))
+}
+
+/// Calls of a block (FIPS 197, FIPS 46-3), or of a mode.
+pub fn try_block(alloc: Global, row: &Row) -> Answer {
+    if row.call != "encrypt_block" && row.call != "decrypt_block" {
+        return try_mode(alloc, row);
+    }
+    if row.suite == "des3" {
+        return block_text(alloc, by_des(row, block_of(&row.input)?));
+    }
+    block_text(
+        alloc,
+        by_aes(row, &size_of(row.suite)?, block_of(&row.input)?),
+    )
 }
 
 /// The octets with their last two blocks in each other's place.
@@ -58,7 +68,7 @@ fn swapped(alloc: Global, octets: &[u8]) -> KerberosCryptoResult<Vec<u8>> {
 }
 
 /// Calls of a mode (RFC 3962, 5 and 6; RFC 3961, 6.3).
-pub fn try_mode(alloc: Global, row: &Row) -> Answer {
+fn try_mode(alloc: Global, row: &Row) -> Answer {
     let (key, input) = (&row.key, &row.input);
     let octets = match row.call {
         "encrypt_des" => encrypt_des(alloc, key, input),

@@ -9,8 +9,8 @@ use krb_types::data_types::{
     PrincipalName, Realm, Ticket, TicketInner, TransitedEncoding,
 };
 
-/// Reads the octets as a primitive type, or a sequence of these, of this name, and returns the findings. `None` where no type has the
-/// name.
+/// Reads the octets as a primitive type, a sequence of these or a list, of this name, and returns the findings. `None` where no type
+/// has the name.
 pub fn try_shared(row: &Row<'_>) -> Attempt {
     Some(match row.name {
         "ApOptions" => findings_of::<ApOptions>(row),
@@ -19,6 +19,13 @@ pub fn try_shared(row: &Row<'_>) -> Attempt {
         "KerberosTime" => findings_of::<KerberosTime>(row),
         "Microseconds" => findings_of::<Microseconds>(row),
         "Realm" => findings_of::<Realm>(row),
+        _ => return try_sequence(row),
+    })
+}
+
+/// Reads the octets as a sequence of these, of this name, and returns the findings.
+fn try_sequence(row: &Row<'_>) -> Attempt {
+    Some(match row.name {
         "AuthorizationDataInner" => findings_of::<AuthorizationDataInner>(row),
         "Checksum" => findings_of::<Checksum>(row),
         "EncryptedData" => findings_of::<EncryptedData>(row),
