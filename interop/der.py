@@ -91,7 +91,12 @@ def nodes(of):
             yield from nodes(each[1])
 
 
-# Values of Kerberos, as trees (RFC 4120, 5.2).
+# Kerberos (RFC 4120): the messages and parts by their application tags (5.10), and values as trees (5.2).
+
+MESSAGES = {
+    1: "Ticket", 2: "Authenticator", 3: "EncTicketPart", 10: "AS-REQ", 11: "AS-REP", 12: "TGS-REQ", 13: "TGS-REP", 14: "AP-REQ", 15: "AP-REP", 21: "KRB-PRIV",
+    22: "KRB-CRED", 25: "EncASRepPart", 26: "EncTGSRepPart", 27: "EncAPRepPart", 28: "EncKrbPrivPart", 29: "EncKrbCredPart", 30: "KRB-ERROR",
+}
 
 
 def integer(number):

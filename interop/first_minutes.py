@@ -129,9 +129,7 @@ def inside(library):
     subprocess.run(["ip", "link", "set", "lo", "up"], check=True)
     with tempfile.TemporaryDirectory() as home:
         os.mkdir(os.path.join(home, "realm"))
-        realm = RecordedRealm(os.path.join(home, "realm"))
-        try:
-            realm.begin()
+        with RecordedRealm(os.path.join(home, "realm")) as realm:
             realm.admin("delprinc -force HTTP/localhost")
             environment = dict(realm.environment, KRBC_LIBRARY=library, PYTHONPATH=os.path.join(TOP, "python"), JOLMURIG=TOP, no_proxy="*")
             for title, commands in parts():
@@ -141,8 +139,6 @@ def inside(library):
                 os.mkdir(folder)
                 environment["KRB5CCNAME"] = "FILE:" + os.path.join(folder, "tickets")
                 yield from judge(title, commands, typed(commands, folder, environment, PASSWORD))
-        finally:
-            realm.stop()
 
 
 def checks(library, program):

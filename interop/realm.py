@@ -29,7 +29,8 @@ def defaults(realm, more=""):
 
 
 class Servers:
-    """The files of a realm in a folder, commands that run with them, and servers that are started and end with it; its KDC is to have the port `port`."""
+    """The files of a realm in a folder, commands that run with them, and servers that are started and end with it; its KDC is to have the port `port`. In a
+    `with` statement `begin` is called, and `stop` at its end."""
 
     failure, seconds = SystemExit, 60  # what is raised where a command fails, and how long one may take
 
@@ -37,6 +38,17 @@ class Servers:
         self.home, self.name, self.processes, self.port = home, name, [], free_port()
         own = {"PATH": PATHS, "HOME": home, "KRB5_CONFIG": self.path("krb5.conf"), "KRB5_KDC_PROFILE": self.path("kdc.conf"), "LC_ALL": "C.UTF-8"}
         self.environment = {**own, **environment}
+
+    def __enter__(self):
+        try:
+            self.begin()
+        except BaseException:
+            self.stop()
+            raise
+        return self
+
+    def __exit__(self, *_):
+        self.stop()
 
     def path(self, name):
         return os.path.join(self.home, name)

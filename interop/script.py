@@ -8,6 +8,7 @@ import random
 import shutil
 import subprocess
 import sys
+import threading
 
 from checks import NAME
 
@@ -15,20 +16,14 @@ TOP = os.path.dirname(os.path.dirname(os.path.abspath(__file__)))
 PROGRAM = os.path.join(TOP, "crates", "jolmurig", "out", "jolmurig")
 PYTHON = "/usr/bin/python3"  # Debian's, for which its packages are
 PATHS = "/usr/sbin:/usr/bin:/sbin:/bin"
-# Heimdal's clients, and the libraries that they need.
-HEIMDAL = (
-    "heimdal-clients libasn1-8-heimdal libgssapi3-heimdal libhcrypto5-heimdal libhdb9-heimdal libheimbase1-heimdal libheimntlm0-heimdal "
-    "libhx509-5-heimdal libkadm5clnt7-heimdal libkadm5srv8-heimdal libkafs0-heimdal libkrb5-26-heimdal libotp0-heimdal libroken19-heimdal "
-    "libsl0-heimdal libwind0-heimdal"
-).split()
 
 
-def options_of(doc, *switches, paths=("--library",), with_seed=False):
-    """What the script is given, by its options: whether each switch, an absolute path or None, and a seed, of chance where it is not given. Other words end
-    the script, which prints its usage."""
-    found, words = {**dict.fromkeys(switches, False), **dict.fromkeys(paths)}, sys.argv[1:]
+def options_of(doc, *switches, paths=("--library",), with_seed=False, seed=None):
+    """What the script is given, by its options: whether each switch, an absolute path or None, and a seed, of chance where it is not given and none stands for
+    that. Other words end the script, which prints its usage."""
+    found, words, with_seed = {**dict.fromkeys(switches, False), **dict.fromkeys(paths)}, sys.argv[1:], with_seed or seed is not None
     if with_seed:
-        found["--seed"] = random.SystemRandom().randrange(10**6)
+        found["--seed"] = random.SystemRandom().randrange(10**6) if seed is None else seed
     while words:
         word = words.pop(0)
         if word in switches:
@@ -67,14 +62,14 @@ def are_services_kept_off():
     return os.access(policy, os.X_OK) and subprocess.run([policy, "krb5-kdc", "start"], capture_output=True).returncode == 101
 
 
-def install(packages, *others):
+def install(packages, *others, path=PATHS):
     """Installs what is missing, where services are kept off, and ends the script where some is missing still. Others are packages that may be."""
-    wanted = [each for each in (missing(packages), *others) if each]
+    wanted = [each for each in (missing(packages, path), *others) if each]
     if wanted and os.geteuid() == 0 and are_services_kept_off():
         subprocess.run(["apt-get", "update"], capture_output=True, timeout=600)
         for each in wanted:
             apt_install(*each)
-    lacking = missing(packages)
+    lacking = missing(packages, path)
     if lacking:
         print("%s: these packages are missing: %s" % (NAME, " ".join(lacking)), file=sys.stderr)
         sys.exit(2)
@@ -89,11 +84,34 @@ def unpacked(packages, root):
     return done.returncode == 0
 
 
-def library_of(options, folder):
-    """The library's file, which `bin/build-c` makes in a folder where none is given."""
-    if options["--library"] is None and subprocess.run([os.path.join(TOP, "bin", "build-c"), os.path.join(folder, "built")]).returncode != 0:
+def prefix_of(options, folder):
+    """Where the library is installed, which `bin/build-c` makes in a folder where none is given."""
+    prefix = options["--library"] or os.path.join(folder, "built")
+    if options["--library"] is None and subprocess.run([os.path.join(TOP, "bin", "build-c"), prefix]).returncode != 0:
         sys.exit(2)
-    return options["--library"] or os.path.join(folder, "built", "lib", "libkrbc.so.2")
+    return prefix
+
+
+def library_of(options, folder):
+    """The library's file, by its own path or by that of the folder into which it is installed."""
+    found = prefix_of(options, folder)
+    return os.path.join(found, "lib", "libkrbc.so.2") if os.path.isdir(found) else found
+
+
+def at_once(count, call):
+    """What so many threads get of a call that they make at once."""
+    got, barrier = [], threading.Barrier(count)
+
+    def go():
+        barrier.wait()
+        got.append(call())
+
+    threads = [threading.Thread(target=go) for _ in range(count)]
+    for each in threads:
+        each.start()
+    for each in threads:
+        each.join()
+    return got
 
 
 def with_library(environment, library):

@@ -19,6 +19,36 @@ def columns_of(name):
     return [row.columns for row in asked(name)]
 
 
+# The comment in tests/calls.rows behind which rows stand for tests/run alone.
+BEHIND = "# Checksums of MIT Kerberos' test t_cksums under keys of an octet, and of triple DES under none"
+
+
+def calls():
+    """The rows of tests/calls.rows up to that comment, each with six columns, the status and the answer: octets,
+    or a size."""
+    with open(os.path.join(TOP, "tests", "calls.rows"), encoding="utf-8") as file:
+        end = file.read().split("\n").index(BEHIND)
+    for row in asked("calls"):
+        if row.line > end:
+            break
+        columns, told = (row.columns + [""] * 6)[:6], row.expected[0]
+        status, _, answer = ("DONE", "", told) if columns[0].endswith("_size") else told.partition(" ")
+        yield [*columns, status, answer]
+
+
+def write_table(path, rows):
+    """Writes rows, with tabs between their columns; returns the path."""
+    with open(path, "w", encoding="utf-8") as to:
+        to.writelines("\t".join(map(str, row)) + "\n" for row in rows)
+    return path
+
+
+def rows_in(path):
+    """The columns of such rows."""
+    with open(path, encoding="utf-8") as file:
+        return [line.rstrip("\n").split("\t") for line in file]
+
+
 def pages():
     """The columns of the rows of tests/pages.rows, an origin, a type and octets, but for files."""
     return [columns for columns in columns_of("pages") if columns[1] not in ("keytab", "ccache")]

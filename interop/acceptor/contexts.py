@@ -6,6 +6,7 @@ import krb
 from checks import expect
 from mutants import BINDINGS
 from realm import REALM
+from refusals import refusal_of, status_of
 
 FLAGS = [
     (),
@@ -21,24 +22,6 @@ FLAGS = [
     ("mutual", "dce", "sequence"),
 ]
 SIZES = (0, 1, 15, 16, 1000, 70000)
-
-
-def refused(call):
-    """The rule that a call's token breaks; None where it breaks none."""
-    try:
-        call()
-    except krb.NotAccepted as error:
-        return error
-    return None
-
-
-def refused_as(call):
-    """The name of the status by which a call refuses; None where it does not."""
-    try:
-        call()
-    except krb.Refused as error:
-        return error.status.name
-    return None
 
 
 def fails(call, *kinds):
@@ -122,8 +105,8 @@ def try_context(realm, title, make, acceptor, service, words, user="ann@" + REAL
                     ("the reply", context.reply, "DIRECTION"), ("a cut one", third[:-1], "INVALID"), ("nothing", b"", "INVALID"),
                     ("a changed one", third[:-1] + bytes([third[-1] ^ 1]), "INTEGRITY"),
                 ):
-                    error = refused_as(lambda: context.confirm(message))
-                    expect(error == status and not context.is_complete, "%s: %s as the third message: %s" % (title, what, error))
+                    error = status_of(context.confirm, message)
+                    expect(error == krb.Status[status] and not context.is_complete, "%s: %s as the third message: %s" % (title, what, error))
                 context.confirm(third)
                 expect(fails(lambda: context.confirm(third), RuntimeError), "%s: the third message twice" % title)
         expect(client.is_complete() and context.is_complete, "%s: the context is not complete" % title)
@@ -131,10 +114,10 @@ def try_context(realm, title, make, acceptor, service, words, user="ann@" + REAL
         try_messages(title, client, context, "dce" in words)
         if "dce" not in words:
             try_order(title, client, context)
-        again = refused(lambda: acceptor.accept(token, bindings))
+        again = refusal_of(acceptor.accept, token, bindings)
         expect(again is not None and again.rule == krb.Rule.REPEAT, "%s: the second time: %r" % (title, again))
         if bindings is not None:
-            other = refused(lambda: acceptor.accept(token, bindings + b"!"))
+            other = refusal_of(acceptor.accept, token, bindings + b"!")
             expect(other is not None and other.rule == krb.Rule.BINDINGS, "%s: other channel bindings: %r" % (title, other))
         return token
     except Exception as error:  # of two libraries
@@ -150,7 +133,7 @@ def try_error(title, make, acceptor, service):
     try:
         token = client.begin()
         acceptor.accept(token)
-        again = refused(lambda: acceptor.accept(token))
+        again = refusal_of(acceptor.accept, token)
         try:
             client.take(again.error)
             expect(False, "%s: takes a KRB-ERROR for a reply" % title)

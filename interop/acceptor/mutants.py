@@ -7,6 +7,7 @@ import time
 from typing import NamedTuple, Optional
 
 from der import element, field, integer, name, nodes, number_of, put, sequence, stamp, text, tree, written
+from octets import flipped
 from sealing import KERBEROS, framed, unframed
 
 BINDINGS = b"tls-server-end-point:" + bytes(range(32))
@@ -45,10 +46,6 @@ def clear_places(base):
     server = written(field(base.request.ticket, 2))
     kind = base.token.index(server) + server.index(b"\x02\x01") + 2
     return [at for at in range(len(base.token)) if at not in ciphers], range(options, options + 4), kind
-
-
-def flipped(token, at, bit):
-    return token[:at] + bytes([token[at] ^ 1 << bit]) + token[at + 1 :]
 
 
 def flips_in_clear(random, base):

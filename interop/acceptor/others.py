@@ -5,25 +5,19 @@ import os
 import subprocess
 
 from checks import expect, say
+from heimdal import HEADERS, programs
 from realm import PASSWORD, REALM
-from script import PATHS, unpacked
+from script import PATHS
 
 HERE = os.path.dirname(os.path.abspath(__file__))
-HEIMDAL = (
-    "heimdal-multidev libasn1-8-heimdal libgssapi3-heimdal libhcrypto5-heimdal libheimbase1-heimdal libheimntlm0-heimdal libhx509-5-heimdal "
-    "libkrb5-26-heimdal libroken19-heimdal libwind0-heimdal"
-).split()
 
 
 def unpacked_heimdal(realm):
-    """The client of Heimdal's GSS-API, and where its libraries are; None where they cannot be had. Debian keeps its packages apart from MIT's, so they are
-    unpacked into the realm's folder."""
+    """The client of Heimdal's GSS-API, and where its libraries are; None where they cannot be had."""
     root, program = realm.path("heimdal"), realm.path("heimdal_client")
-    whole = unpacked(HEIMDAL, root)
-    found = glob.glob(os.path.join(root, "usr", "lib", "*", "libgssapi.so.3"))
-    if not whole or not found:
-        say("left out: Heimdal, whose packages cannot be had")
+    if programs(root, HEADERS) is None:
         return None
+    found = glob.glob(os.path.join(root, "usr", "lib", "*", "libgssapi.so.3"))
     libraries = os.path.dirname(found[0])
     command = ["gcc", "-Wall", "-Wextra", "-O1", "-I" + os.path.join(root, "usr", "include", "heimdal"), os.path.join(HERE, "gss_client.c"), "-o", program]
     realm.run(*command, found[0], "-Wl,-rpath-link," + libraries)

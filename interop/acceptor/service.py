@@ -2,15 +2,16 @@
 
 import re
 import shutil
-import threading
 import time
 
 import krb
 from checks import expect
 from clients import MitClient
-from contexts import refused
 from der import field, put
 from keytabs import keys_of
+from octets import octets_in
+from refusals import refusal_of, rule_of
+from script import at_once
 from sealing import Request
 from units import in_child, raised
 
@@ -19,9 +20,8 @@ def token_of(service="e18", words=("mutual",)):
     return MitClient(service, list(words)).begin()
 
 
-def rule_of(acceptor, token, **words):
-    error = refused(lambda: acceptor.accept(token, **words))
-    return None if error is None else error.rule.name
+def rule(acceptor, token, **words):
+    return rule_of(acceptor.accept, token, **words)
 
 
 class Own:
@@ -50,11 +50,11 @@ def try_caches(keytab):
         ("none", False, [None, None]),
     ):
         acceptor = krb.Acceptor(keytab, replay_cache=cache)
-        got = [rule_of(acceptor, token) for _ in range(2)]
+        got = [rule(acceptor, token) for _ in range(2)]
         expect(got == wanted, "a replay cache, %s: %s, and not %s" % (title, got, wanted))
     late = krb.Acceptor(keytab, replay_cache=krb.ReplayCache(None), clock=lambda: now - 100)
-    expect([rule_of(late, token), rule_of(late, token)] == [None, "REPEAT"], "a clock that is late")
-    error = refused(lambda: krb.Acceptor(keytab, replay_cache=krb.ReplayCache(now - 270)).accept(token))
+    expect([rule(late, token), rule(late, token)] == [None, "REPEAT"], "a clock that is late")
+    error = refusal_of(krb.Acceptor(keytab, replay_cache=krb.ReplayCache(now - 270)).accept, token)
     expect(re.search(r"is let in in (2[5-9]|3[01]) s \(replay_cache= says whole_since", str(error)), "a cache that is too young: %s" % error)
     try:
         krb.Acceptor(keytab, replay_cache=Own(OSError("the disk is full"))).accept(token)
@@ -75,7 +75,7 @@ def try_clock_back(realm, keytab):
             cache.add(ahead.to_bytes(8, "big") + bytes(4) + b"an entry", ahead - 300)
         acceptor, token = krb.Acceptor(keytab, replay_cache=cache), token_of()
         for turn in range(2):
-            error = refused(lambda: acceptor.accept(token))
+            error = refusal_of(acceptor.accept, token)
             right = error is not None and (error.rule, error.code) == (krb.Rule.UNREMEMBERED, 34) and bool(error.error)
             told = re.search(r"clock was (359\d|3600) s later than now: it went back", str(error))
             expect(right and told, "a clock that went back, %s: %s" % (title, error))
@@ -100,7 +100,7 @@ def try_workers(realm, keytab):
     ):
         first = [time.time() - 400]  # the time at which it is made, so that the default is old enough
         acceptor, token = krb.Acceptor(keytab, replay_cache=cache, clock=lambda: first.pop() if first and cache is None else time.time()), token_of()
-        said = sorted(in_child(lambda: rule_of(acceptor, token) or "in").strip("'").partition(":")[0] for _ in range(4))
+        said = sorted(in_child(lambda: rule(acceptor, token) or "in").strip("'").partition(":")[0] for _ in range(4))
         expect(said == wanted, "four workers, a cache %s: %s" % (title, said))
 
 
@@ -108,17 +108,8 @@ def try_threads(keytab):
     """Of eight threads with one token, one lets the client in."""
     acceptor = krb.Acceptor(keytab, replay_cache=krb.ReplayCache(None))
     for n in range(20):
-        token, rules, barrier = token_of(), [], threading.Barrier(8)
-
-        def go():
-            barrier.wait()
-            rules.append(rule_of(acceptor, token) or "in")
-
-        threads = [threading.Thread(target=go) for _ in range(8)]
-        for each in threads:
-            each.start()
-        for each in threads:
-            each.join()
+        token = token_of()
+        rules = at_once(8, lambda: rule(acceptor, token) or "in")
         expect(sorted(rules) == ["REPEAT"] * 7 + ["in"], "eight threads: %s" % rules)
 
 
@@ -129,10 +120,10 @@ def try_messages(keytab):
         (312, r"SKEW: the client's time is 31[1-4] s behind \(limit 300\)"),
         (-312, r"SKEW: the client's time is 31[0-3] s ahead \(limit 300\)"),
     ):
-        error = refused(lambda: krb.Acceptor(keytab, replay_cache=False, clock=lambda: time.time() + shift).accept(token))
+        error = refusal_of(krb.Acceptor(keytab, replay_cache=False, clock=lambda: time.time() + shift).accept, token)
         expect(error is not None and re.fullmatch(pattern, str(error)) and error.code == 37, "a clock that is %d seconds off: %s" % (shift, error))
     wide = krb.Acceptor(keytab, replay_cache=False, skew=400, clock=lambda: time.time() + 312)
-    expect(rule_of(wide, token) is None, "a clock that is 312 seconds off, of 400")
+    expect(rule(wide, token) is None, "a clock that is 312 seconds off, of 400")
 
 
 def try_keytab(realm):
@@ -140,17 +131,16 @@ def try_keytab(realm):
     path = realm.path("old")
     shutil.copy(realm.keytab, path)
     acceptor = krb.Acceptor(path, replay_cache=False)
-    with open(path, "rb") as file:
-        octets = krb.Acceptor(bytearray(file.read()), replay_cache=False)
+    octets = krb.Acceptor(bytearray(octets_in(path)), replay_cache=False)
     realm.admin("addprinc -randkey turn/localhost", "ktadd -k %s turn/localhost" % path)
     first = token_of("turn")
-    expect([rule_of(each, first) for each in (acceptor, octets)] == ["NOT_US", "NOT_US"], "a server that the keytab does not have")
+    expect([rule(each, first) for each in (acceptor, octets)] == ["NOT_US", "NOT_US"], "a server that the keytab does not have")
     acceptor.reload()
-    expect([rule_of(each, first) for each in (acceptor, octets)] == [None, "NOT_US"], "a keytab that is read anew")
+    expect([rule(each, first) for each in (acceptor, octets)] == [None, "NOT_US"], "a keytab that is read anew")
     realm.run("kdestroy")
     realm.admin("cpw -randkey turn/localhost")
     realm.kinit("ann")
-    error = refused(lambda: acceptor.accept(token_of("turn")))
+    error = refusal_of(acceptor.accept, token_of("turn"))
     right = error is not None and str(error) == "KEY_VERSION: the keytab has no key of version 3, which the ticket names" and (error.code, error.seen) == (44, 3)
     expect(right, "a key that is changed: %s" % error)
     with open(path, "wb") as file:
@@ -159,7 +149,7 @@ def try_keytab(realm):
         acceptor.reload()
         expect(False, "a file that is no keytab is taken for one")
     except krb.Refused as error:
-        expect(error.status == krb.Status.KEYTAB and rule_of(acceptor, first) is None, "what is no keytab: %s" % error)
+        expect(error.status == krb.Status.KEYTAB and rule(acceptor, first) is None, "what is no keytab: %s" % error)
 
 
 def try_options(realm, keytab):
@@ -167,7 +157,7 @@ def try_options(realm, keytab):
     realm.admin("modprinc +no_auth_data_required e17/localhost")
     token = token_of("e17")
     realm.admin("modprinc -no_auth_data_required e17/localhost")
-    got = [rule_of(krb.Acceptor(keytab, replay_cache=False, pac=pac), token) for pac in ("checked", "ignored", "required")]
+    got = [rule(krb.Acceptor(keytab, replay_cache=False, pac=pac), token) for pac in ("checked", "ignored", "required")]
     expect(got == [None, None, "PAC_MISSING"], "a ticket without a PAC: %s" % got)
     for subkey in (True, False):
         client = MitClient("e18", ["mutual"])
@@ -176,9 +166,9 @@ def try_options(realm, keytab):
         expect((context.own_subkey is not None) == subkey and client.is_complete(), "a subkey of the service's: %s" % subkey)
         expect(context.own_sequence_number < 2**30 and "Secret(" in repr(context.session_key), "the sequence number %d" % context.own_sequence_number)
     for address in ("127.0.0.1", "::1", "::ffff:127.0.0.1", "fe80::1%lo", None):
-        expect(rule_of(krb.Acceptor(keytab, replay_cache=False), token_of(), address=address) is None, "the address %s" % address)
+        expect(rule(krb.Acceptor(keytab, replay_cache=False), token_of(), address=address) is None, "the address %s" % address)
     required = krb.Acceptor(keytab, replay_cache=False, addresses_required=True)
-    expect(rule_of(required, token_of(), address="127.0.0.1") == "OTHER_ADDRESS", "a ticket that names no addresses")
+    expect(rule(required, token_of(), address="127.0.0.1") == "OTHER_ADDRESS", "a ticket that names no addresses")
     error = raised(lambda: required.accept(token_of()), True)
     expect(type(error) is ValueError and "addresses_required" in str(error), "no address, and addresses are required: %r" % error)
 
@@ -191,15 +181,15 @@ def try_named(keytab):
         ("e18", "NOT_US"), ("HTTP/www", "NOT_US"), ("HTTP/localhost@HOME", "NOT_US"), ("http/localhost", "NOT_US"), ("HTTP/localhost/more", "NOT_US"),
         ("localhost", "NOT_US"), (["ldap", "HTTP"], None), (("HTTP/www", "HTTP/localhost@HOME.TEST"), None), (["ldap", "HTTP/www"], "NOT_US"),
     ):
-        got = rule_of(krb.Acceptor(keytab, replay_cache=False, server=server), token)
+        got = rule(krb.Acceptor(keytab, replay_cache=False, server=server), token)
         expect(got == wanted, "a ticket for HTTP/localhost@HOME.TEST, and the service %s: %s" % (server, got))
     for realm, wanted in ((None, None), ("HOME.TEST", None), ("home.test", "CLIENT_REALM"), ("HOME", "CLIENT_REALM"), (["HOME", "HOME.TEST"], None), (["HOME"], "CLIENT_REALM")):
-        got = rule_of(krb.Acceptor(keytab, replay_cache=False, client_realm=realm), token)
+        got = rule(krb.Acceptor(keytab, replay_cache=False, client_realm=realm), token)
         expect(got == wanted, "a client of HOME.TEST, and the realm %s: %s" % (realm, got))
     bound = krb.Acceptor(keytab, replay_cache=False)
-    expect(rule_of(bound, token, channel_bindings=b"") == "BINDINGS", "channel bindings of no data, which the client does not have")
+    expect(rule(bound, token, channel_bindings=b"") == "BINDINGS", "channel bindings of no data, which the client does not have")
     early = krb.Acceptor(keytab, replay_cache=krb.ReplayCache(-5))
-    expect([rule_of(early, token), rule_of(early, token)] == [None, "REPEAT"], "a cache that is whole since before 1970")
+    expect([rule(early, token), rule(early, token)] == [None, "REPEAT"], "a cache that is whole since before 1970")
 
 
 def try_anonymous(keytab):
@@ -209,13 +199,12 @@ def try_anonymous(keytab):
     flags = int.from_bytes(field(request.part, 0)[1][1:5], "big") | 1 << 31 - 16
     put(request.part, 0, [3, bytes(1) + flags.to_bytes(4, "big")])
     token = request.seal().token()
-    got = [rule_of(krb.Acceptor(keytab, replay_cache=False, anonymous=anonymous, pac="ignored"), token) for anonymous in (False, True)]
+    got = [rule(krb.Acceptor(keytab, replay_cache=False, anonymous=anonymous, pac="ignored"), token) for anonymous in (False, True)]
     expect(got == ["ANONYMOUS", None], "a client without a name: %s" % got)
 
 
 def try_service(realm):
-    with open(realm.keytab, "rb") as file:
-        keytab = file.read()
+    keytab = octets_in(realm.keytab)
     try_caches(keytab)
     try_clock_back(realm, keytab)
     try_workers(realm, keytab)

@@ -8,6 +8,8 @@ import time
 
 import krb
 from checks import expect
+from octets import octets_in
+from script import at_once
 from krb import _context as context_of
 from krb._window import SequenceWindow
 
@@ -80,17 +82,7 @@ def try_forked():
 def try_threads(title, cache):
     """Of eight threads with one entry, one adds it."""
     for n in range(50):
-        added, barrier = [], threading.Barrier(8)
-
-        def go():
-            barrier.wait()
-            added.append(cache.add(entry(5000 + n), 4000))
-
-        threads = [threading.Thread(target=go) for _ in range(8)]
-        for each in threads:
-            each.start()
-        for each in threads:
-            each.join()
+        added = at_once(8, lambda: cache.add(entry(5000 + n), 4000))
         expect(sorted(added) == [False] * 7 + [True], "%s: threads: %s" % (title, added))
 
 
@@ -335,5 +327,4 @@ def try_units(realm):
     try_window()
     try_names()
     try_terms()
-    with open(realm.keytab, "rb") as file:
-        try_refusals(file.read())
+    try_refusals(octets_in(realm.keytab))

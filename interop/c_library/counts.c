@@ -4,7 +4,7 @@
 #include <stdlib.h>
 #include <string.h>
 
-enum { UNTOUCHED = 0xA5 };
+enum { UNTOUCHED = 0xA5, MOST_COLUMNS = 16 };
 
 static long passed, failed;
 
@@ -96,6 +96,14 @@ int next_row(void *file, char **columns, int count) {
         columns[k] = rest ? strsep(&rest, "\t") : nothing;
     }
     return 1;
+}
+
+void each_row(const char *name, int count, void (*to)(char **columns)) {
+    FILE *file = fopen(name, "r");
+    char *columns[MOST_COLUMNS];
+    if (!file || count > MOST_COLUMNS) die("a table is not there");
+    while (next_row(file, columns, count)) to(columns);
+    fclose(file);
 }
 
 uint32_t drawn(uint32_t below) {

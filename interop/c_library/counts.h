@@ -32,6 +32,9 @@ int is_untouched(const struct octets *room, size_t from);
    empty lines are left out. The columns stand till the next call. */
 int next_row(void *file, char **columns, int count);
 
+/* The rows of a table, each handed on with its columns. */
+void each_row(const char *name, int count, void (*to)(char **columns));
+
 /* A number that is drawn by a generator of a fixed seed, below a limit; octets of it. */
 uint32_t drawn(uint32_t below);
 void draw(uint8_t *to, size_t count);

@@ -10,7 +10,8 @@ import sys
 sys.dont_write_bytecode = True
 sys.path.append(os.path.join(os.path.dirname(os.path.abspath(__file__)), ".."))
 
-from der import BITS, INTEGER, OCTETS, TEXT, TIME, elements  # noqa: E402
+from der import BITS, INTEGER, MESSAGES, OCTETS, TEXT, TIME, elements  # noqa: E402
+from tables import rows_in  # noqa: E402
 
 # The fields of a ticket and of a sealed part, by the numbers of krb.h: the tags of the fields on the way, `[n]` of a SEQUENCE each, and what is there;
 # a list has its items by index, or a field of each.
@@ -85,7 +86,6 @@ NUMBERS = {7, 8, 13, 15, 16, 19, 20, 25, 26, 28, 29, 30, 31}
 MOST_FIELD = 32
 
 # The names of types (RFC 4120, 5), and of their fields by tag; of those within them by the tags on the way.
-TYPES = {1: "Ticket", 10: "AS-REQ", 11: "AS-REP", 12: "TGS-REQ", 13: "TGS-REP", 14: "AP-REQ", 15: "AP-REP", 21: "KRB-PRIV", 22: "KRB-CRED", 30: "KRB-ERROR"}
 NAME, SEALED_NAMES = {0: "name-type", 1: "name-string"}, {0: "etype", 1: "kvno", 2: "cipher"}
 DATA_NAMES = {1: "padata-type", 2: "padata-value"}
 TICKET_NAMES = {1: "realm", 2: ("sname", NAME), 3: ("enc-part", SEALED_NAMES)}
@@ -171,14 +171,10 @@ def answers(number, octets):
 
 
 def main():
-    with open(sys.argv[1], encoding="ascii") as table:
-        for line in table:
-            if line.startswith("#"):
-                continue
-            number, octets = line.split()
-            if int(number) in FIELDS:
-                for field, index, status, offset, size, value, path in answers(int(number), bytes.fromhex(octets)):
-                    print(number, octets, field, index, status, offset, size, "" if value is None else value, TYPES[int(number)], path, sep="\t")
+    for number, octets in rows_in(sys.argv[1]):
+        if int(number) in FIELDS:
+            for field, index, status, offset, size, value, path in answers(int(number), bytes.fromhex(octets)):
+                print(number, octets, field, index, status, offset, size, "" if value is None else value, MESSAGES[int(number)], path, sep="\t")
 
 
 if __name__ == "__main__":

@@ -19,13 +19,13 @@ bindings    name, type and address of the initiator, of the acceptor, data, octe
 usage: expect_logins.py"""
 
 import hashlib
-import hmac
 import os
 import re
 import sys
 
 sys.dont_write_bytecode = True
 sys.path.insert(0, os.path.join(os.path.dirname(os.path.abspath(__file__)), ".."))
+from ciphers import key_of_password  # noqa: E402
 from der import element, elements, integer, name, read, sequence, stamp, text  # noqa: E402
 from keytabs import keytab_of_texts  # noqa: E402
 from tables import TOP, asked  # noqa: E402
@@ -169,13 +169,12 @@ def reply_rows(lines):
 
 def password_rows():
     """Keys of a password with the salt and the number of iterations that an error names in its ETYPE-INFO2 (RFC 4120, 5.2.7.5; RFC 8009, 4)."""
-    for etype, suite, hashed, size, count in ((19, b"aes128-cts-hmac-sha256-128", "sha256", 16, 16), (20, b"aes256-cts-hmac-sha384-192", "sha384", 32, 17)):
+    for etype, count in ((19, 16), (20, 17)):
         salt = b"PEER.TESTalice"
         entry = sequence((0, integer(etype)), (1, text(salt)), (2, [4, count.to_bytes(4, "big")]))
         data = element(0x30, sequence((1, integer(19)), (2, [4, element(0x30, entry)])))
         error = error_octets(1795763470, 0, 25, 2, [b"krbtgt", b"PEER.TEST"], b"PEER.TEST", False, [4, data])
-        key = hashlib.pbkdf2_hmac(hashed, PASSWORD, suite + b"\0" + salt, count, size)
-        key = hmac.new(key, b"\0\0\0\1kerberos\0" + (8 * size).to_bytes(4, "big"), hashed).digest()[:size]
+        key = key_of_password(etype, PASSWORD, salt, count)
         yield ["password", "the key of a password under %d" % etype, error.hex(), PASSWORD.hex(), str(etype), key.hex()]
 
 

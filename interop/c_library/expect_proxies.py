@@ -14,6 +14,7 @@ sys.path += [os.path.join(HERE, ".."), os.path.join(HERE, "..", "kdc_proxy_parts
 import judge  # noqa: E402
 import rules  # noqa: E402
 from mutants import body, flipped, framed, password_frame  # noqa: E402
+from tables import rows_in  # noqa: E402
 
 
 def row(call, octets, beside, broken, *told):
@@ -85,10 +86,8 @@ def of_reply(message):
 
 def main():
     random.seed(131072)
-    with open(sys.argv[1], encoding="ascii") as table:
-        rows = [(int(number), bytes.fromhex(digits)) for number, digits in (line.split() for line in table if not line.startswith("#"))]
-    with open(sys.argv[2], encoding="ascii") as table:
-        frames = [bytes.fromhex(digits) for kind, digits in (line.split() for line in table) if kind == "password"]
+    rows = [(int(number), bytes.fromhex(digits)) for number, digits in rows_in(sys.argv[1])]
+    frames = [bytes.fromhex(digits) for kind, digits in rows_in(sys.argv[2]) if kind == "password"]
     for number, message in rows:
         if not rules.of_what_goes(message, False):
             of_request(message, judge.judged(body(framed(message), b"")).realm)

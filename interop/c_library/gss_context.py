@@ -28,6 +28,7 @@ sys.dont_write_bytecode = True
 sys.path.append(os.path.join(os.path.dirname(os.path.abspath(__file__)), ".."))
 
 from checks import ended, expect  # noqa: E402
+from octets import flipped  # noqa: E402
 from realm import SUITES, Servers  # noqa: E402
 
 REALM = "LAB.EXAMPLE"
@@ -111,14 +112,6 @@ def rotated(token, count):
     return header[:6] + count.to_bytes(2, "big") + header[8:] + held[cut:] + held[:cut]
 
 
-def flipped(token):
-    """The token with one bit of each octet another, and which octet."""
-    for place in range(len(token)):
-        changed = bytearray(token)
-        changed[place] ^= 1 << place % 8
-        yield place, bytes(changed)
-
-
 def is_taken(call, *words):
     from gssapi.exceptions import GSSError
     from krb import Refused
@@ -128,16 +121,6 @@ def is_taken(call, *words):
         return True
     except (GSSError, Refused):
         return False
-
-
-def status_of(call, *words):
-    from krb import Refused
-
-    try:
-        call(*words)
-    except Refused as refused:
-        return refused.status
-    return None
 
 
 class Pair:
@@ -166,6 +149,7 @@ class Pair:
     def theirs(self, message):
         """MIT's tokens, here."""
         from krb import Status, gss
+        from refusals import status_of
 
         number, token = self.next_number(), self.sender.mit.get_signature(message)
         self.expect(gss.verify_mic(self.key, message, token) == number, "MIT's MIC token has another number")
@@ -197,13 +181,15 @@ class Pair:
 
         for sealed in (False, True):
             token = gss.wrap(self.key, self.own_number, message) if sealed else gss.wrap_in_clear(self.key, self.own_number, message)
-            for place, bad in flipped(token):
+            for place in range(len(token)):
+                bad = flipped(token, place, place % 8)
                 self.expect(not is_taken(gss.unwrap, self.key, bad), "a Wrap token is taken with octet %d another" % place)
                 self.expect(not is_taken(self.receiver.mit.unwrap, bad), "MIT takes a Wrap token with octet %d another" % place)
             for size in range(len(token)):
                 self.expect(not is_taken(gss.unwrap, self.key, token[:size]), "a Wrap token is taken of %d octets" % size)
         token = gss.make_mic(self.key, self.own_number, message)
-        for place, bad in flipped(token):
+        for place in range(len(token)):
+            bad = flipped(token, place, place % 8)
             self.expect(not is_taken(gss.verify_mic, self.key, message, bad), "a MIC token is taken with octet %d another" % place)
             self.expect(not is_taken(self.receiver.mit.verify_signature, message, bad), "MIT takes a MIC token with octet %d another" % place)
         for size in range(len(token)):
@@ -226,16 +212,12 @@ def try_contexts(realm):
 
 def main():
     with tempfile.TemporaryDirectory() as home:
-        realm = ContextRealm(home)
-        try:
-            realm.begin()
+        with ContextRealm(home) as realm:
             os.environ.update(realm.environment)
             if sys.argv[1:] == ["--rows"]:
                 rows(realm)
                 return 0
             try_contexts(realm)
-        finally:
-            realm.stop()
     return ended()
 
 

@@ -269,18 +269,12 @@ static const char *kept_of(const char *call) {
     return NULL;
 }
 
-static void try_rows(const char *name) {
-    FILE *file = fopen(name, "r");
-    char *columns[8];
-    if (!file) die("a table is not there");
-    while (next_row(file, columns, 8)) {
-        if (strstr(columns[0], "_size") || !strcmp(columns[0], "n_fold") || strstr(columns[0], "string_to_key")) continue;
-        struct row row = {columns[0], (int32_t)strtol(columns[1], NULL, 10), (int32_t)strtol(columns[3], NULL, 10), octets_of_text(columns[2]), octets_of_text(columns[4]), octets_of_text(columns[5])};
-        try_call(&row);
-        if ((row.call = kept_of(columns[0]))) try_call(&row);
-        drop(&row.key), drop(&row.beside), drop(&row.input);
-    }
-    fclose(file);
+static void try_row(char **columns) {
+    if (strstr(columns[0], "_size") || !strcmp(columns[0], "n_fold") || strstr(columns[0], "string_to_key")) return;
+    struct row row = {columns[0], (int32_t)strtol(columns[1], NULL, 10), (int32_t)strtol(columns[3], NULL, 10), octets_of_text(columns[2]), octets_of_text(columns[4]), octets_of_text(columns[5])};
+    try_call(&row);
+    if ((row.call = kept_of(columns[0]))) try_call(&row);
+    drop(&row.key), drop(&row.beside), drop(&row.input);
 }
 
 static struct octets text_of(const char *text) { return octets_of((const uint8_t *)text, strlen(text)); }
@@ -322,32 +316,27 @@ static void try_decoded(const struct octets *part) {
 }
 
 /* Each message is checked, each part sealed and opened under each suite. */
-static void try_messages(const char *name) {
-    FILE *file = fopen(name, "r");
-    char *columns[2], call[64];
-    if (!file) die("a table is not there");
-    while (next_row(file, columns, 2)) {
-        struct octets octets = octets_of_text(columns[1]);
-        int32_t number = (int32_t)strtol(columns[0], NULL, 10);
-        struct row check = {"check", number, 0, {NULL, 0}, {NULL, 0}, octets};
-        try_call(&check);
-        if (number == KRB_MESSAGE_ENC_TICKET_PART) try_decoded(&octets);
-        for (int p = 0; p < PARTS; p++)
-            for (int s = 0; s < SUITES && parts[p].number == number; s++) {
-                struct octets key = room_of(suites[s].key), confounder = room_of(suites[s].confounder), sealed = room_of(octets.count + 99);
-                struct row seal = {call, suites[s].etype, 2, key, confounder, octets};
-                size_t size;
-                snprintf(call, sizeof call, "seal_%s", parts[p].name);
-                try_call(&seal);
-                EXPECT(answered(&seal, &sealed, &size) == KRB_DONE, "%s", call);
-                struct row opened = {call, suites[s].etype, 2, key, confounder, octets_of(sealed.at, size)};
-                snprintf(call, sizeof call, "open_%s", parts[p].name);
-                try_call(&opened);
-                drop(&opened.input), drop(&key), drop(&confounder), drop(&sealed);
-            }
-        drop(&octets);
-    }
-    fclose(file);
+static void try_message(char **columns) {
+    char call[64];
+    struct octets octets = octets_of_text(columns[1]);
+    int32_t number = (int32_t)strtol(columns[0], NULL, 10);
+    struct row check = {"check", number, 0, {NULL, 0}, {NULL, 0}, octets};
+    try_call(&check);
+    if (number == KRB_MESSAGE_ENC_TICKET_PART) try_decoded(&octets);
+    for (int p = 0; p < PARTS; p++)
+        for (int s = 0; s < SUITES && parts[p].number == number; s++) {
+            struct octets key = room_of(suites[s].key), confounder = room_of(suites[s].confounder), sealed = room_of(octets.count + 99);
+            struct row seal = {call, suites[s].etype, 2, key, confounder, octets};
+            size_t size;
+            snprintf(call, sizeof call, "seal_%s", parts[p].name);
+            try_call(&seal);
+            EXPECT(answered(&seal, &sealed, &size) == KRB_DONE, "%s", call);
+            struct row opened = {call, suites[s].etype, 2, key, confounder, octets_of(sealed.at, size)};
+            snprintf(call, sizeof call, "open_%s", parts[p].name);
+            try_call(&opened);
+            drop(&opened.input), drop(&key), drop(&confounder), drop(&sealed);
+        }
+    drop(&octets);
 }
 
 /* Keys of passwords take long, so one of each suite. */
@@ -370,29 +359,23 @@ static void try_page(const struct octets *message, int number) {
 }
 
 /* Fields that are found in messages, and all items of these, also as text and as JSON: rows that expect_fields.py makes. */
-static void try_fields(const char *name) {
-    FILE *file = fopen(name, "r");
-    char *columns[10];
-    int pages = 0;
-    if (!file) die("a table is not there");
-    while (next_row(file, columns, 10)) {
-        if (strcmp(columns[4], "DONE")) continue;
-        struct row row = {"find", 0, 0, text_of(columns[8]), text_of(columns[9]), octets_of_text(columns[1])};
+static void try_field(char **columns) {
+    static int pages = 0;
+    if (strcmp(columns[4], "DONE")) return;
+    struct row row = {"find", 0, 0, text_of(columns[8]), text_of(columns[9]), octets_of_text(columns[1])};
+    try_call(&row);
+    row.call = "find_number";
+    if (columns[7][0] && strcmp(columns[7], "TOO_LARGE")) try_call(&row);
+    row.call = "items";
+    if (!strcmp(columns[3], "0")) {
         try_call(&row);
-        row.call = "find_number";
-        if (columns[7][0] && strcmp(columns[7], "TOO_LARGE")) try_call(&row);
-        row.call = "items";
-        if (!strcmp(columns[3], "0")) {
-            try_call(&row);
-            row.call = "show_text";
-            try_call(&row);
-            row.call = "show_json", row.number = 1;
-            try_call(&row);
-            try_page(&row.input, pages++);
-        }
-        drop(&row.key), drop(&row.beside), drop(&row.input);
+        row.call = "show_text";
+        try_call(&row);
+        row.call = "show_json", row.number = 1;
+        try_call(&row);
+        try_page(&row.input, pages++);
     }
-    fclose(file);
+    drop(&row.key), drop(&row.beside), drop(&row.input);
 }
 
 static struct octets part_of(const struct octets *whole, const uint64_t *place) { return octets_of(whole->at + place[0], place[1]); }
@@ -434,67 +417,49 @@ static void try_pac(const struct octets *pac) {
         EXPECT(seen.requests == 0 && statuses[k] != KRB_MEMORY, "call %zu of a PAC: status %u, %ld requests", k, statuses[k], seen.requests);
 }
 
-static void try_frames(const char *name) {
-    FILE *file = fopen(name, "r");
-    char *columns[2];
-    if (!file) die("a table is not there");
-    while (next_row(file, columns, 2)) {
-        struct octets octets = octets_of_text(columns[1]);
-        if (!strcmp(columns[0], "pac") || !strcmp(columns[0], "unlisted"))
-            try_pac(&octets);
-        else
-            try_frame(columns[0], &octets);
-        drop(&octets);
-    }
-    fclose(file);
+static void try_frame_row(char **columns) {
+    struct octets octets = octets_of_text(columns[1]);
+    if (!strcmp(columns[0], "pac") || !strcmp(columns[0], "unlisted"))
+        try_pac(&octets);
+    else
+        try_frame(columns[0], &octets);
+    drop(&octets);
 }
 
 /* Tokens verified and opened, and made of their messages: rows of an etype, a key, two flags, a number, a kind, a message and a token. */
-static void try_tokens(const char *name) {
-    FILE *file = fopen(name, "r");
-    char *columns[8];
-    if (!file) die("a table is not there");
-    while (next_row(file, columns, 8)) {
-        struct octets message = octets_of_text(columns[6]), token = octets_of_text(columns[7]), confounder = room_of(16), none = {NULL, 0};
-        int is_mic = !strcmp(columns[5], "mic"), is_sealed = !strcmp(columns[5], "sealed");
-        struct row row = {is_mic ? "make_mic" : is_sealed ? "wrap" : "wrap_in_clear", (int32_t)strtol(columns[0], NULL, 10),
-                (columns[2][0] == '1') | (columns[3][0] == '1') << 1, octets_of_text(columns[1]), is_sealed ? confounder : none, message};
-        try_call(&row);
-        row.call = is_mic ? "verify_mic" : "unwrap", row.beside = is_mic ? token : none, row.input = is_mic ? message : token;
-        try_call(&row);
-        drop(&message), drop(&token), drop(&confounder), drop(&row.key);
-    }
-    fclose(file);
+static void try_token(char **columns) {
+    struct octets message = octets_of_text(columns[6]), token = octets_of_text(columns[7]), confounder = room_of(16), none = {NULL, 0};
+    int is_mic = !strcmp(columns[5], "mic"), is_sealed = !strcmp(columns[5], "sealed");
+    struct row row = {is_mic ? "make_mic" : is_sealed ? "wrap" : "wrap_in_clear", (int32_t)strtol(columns[0], NULL, 10),
+            (columns[2][0] == '1') | (columns[3][0] == '1') << 1, octets_of_text(columns[1]), is_sealed ? confounder : none, message};
+    try_call(&row);
+    row.call = is_mic ? "verify_mic" : "unwrap", row.beside = is_mic ? token : none, row.input = is_mic ? message : token;
+    try_call(&row);
+    drop(&message), drop(&token), drop(&confounder), drop(&row.key);
 }
 
 /* The calls of a KDC proxy, of rows that are taken: a call, octets, what else it takes, and the status. */
-static void try_proxies(const char *name) {
+static void try_proxied(char **columns) {
     static const char *const calls[][2] = {{"request", "request"}, {"request", "request_items"}, {"lenient", "lenient"}, {"read", "read"},
             {"reply", "make_reply"}, {"datagram", "make_datagram"}, {"client", "make_client"}};
-    FILE *file = fopen(name, "r");
-    char *columns[4];
-    if (!file) die("a table is not there");
-    while (next_row(file, columns, 4)) {
-        for (size_t k = 0; k < sizeof calls / sizeof *calls; k++) {
-            if (strcmp(columns[3], "DONE") || strcmp(columns[0], calls[k][0])) continue;
-            struct octets none = {NULL, 0};
-            struct row row = {calls[k][1], 0, 0, none, octets_of_text(columns[2]), octets_of_text(columns[1])};
-            try_call(&row);
-            drop(&row.beside), drop(&row.input);
-        }
+    for (size_t k = 0; k < sizeof calls / sizeof *calls; k++) {
+        if (strcmp(columns[3], "DONE") || strcmp(columns[0], calls[k][0])) continue;
+        struct octets none = {NULL, 0};
+        struct row row = {calls[k][1], 0, 0, none, octets_of_text(columns[2]), octets_of_text(columns[1])};
+        try_call(&row);
+        drop(&row.beside), drop(&row.input);
     }
-    fclose(file);
 }
 
 int main(int count, char **words) {
     if (count != 7) die("refused ROWS MESSAGES FIELDS FRAMES TOKENS PROXIES");
-    try_rows(words[1]);
-    try_messages(words[2]);
+    each_row(words[1], 8, try_row);
+    each_row(words[2], 2, try_message);
     try_passwords();
-    try_fields(words[3]);
-    try_frames(words[4]);
-    try_tokens(words[5]);
-    try_proxies(words[6]);
+    each_row(words[3], 10, try_field);
+    each_row(words[4], 2, try_frame_row);
+    each_row(words[5], 8, try_token);
+    each_row(words[6], 4, try_proxied);
     printf("%ld allocations were refused, at most %ld a call\n", refusals, most);
     return counted();
 }

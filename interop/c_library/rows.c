@@ -117,13 +117,7 @@ static void try_row(char **columns) {
 }
 
 int main(int count, char **words) {
-    for (int k = 1; k < count; k++) {
-        FILE *file = fopen(words[k], "r");
-        if (!file) die("a table is not there");
-        char *columns[8];
-        while (next_row(file, columns, 8)) try_row(columns);
-        fclose(file);
-    }
+    for (int k = 1; k < count; k++) each_row(words[k], 8, try_row);
     try_unmade();
     return counted();
 }

@@ -38,6 +38,7 @@ ctypes.CDLL = _Counting
 
 import krb  # noqa: E402
 from counting import ended, expect, outcome  # noqa: E402
+from tables import rows_in  # noqa: E402
 
 CKSUMTYPES = {16: 12, 17: 15, 18: 16, 19: 19, 20: 20}
 
@@ -88,9 +89,8 @@ def main():
     for etype in CKSUMTYPES:
         for size in (0, 1, 8, 15, 16, 17, 64, 1000, 65499, 65500, 65507, 65535, 65536):
             try_suite(etype, bytes(range(256)) * (size // 256) + bytes(size % 256))
-    with open(sys.argv[1], encoding="ascii") as table:
-        for number, digits in (line.split() for line in table if not line.startswith("#")):
-            try_message(int(number), bytes.fromhex(digits))
+    for number, digits in rows_in(sys.argv[1]):
+        try_message(int(number), bytes.fromhex(digits))
     return ended()
 
 

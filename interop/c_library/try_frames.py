@@ -11,6 +11,7 @@ import tracemalloc
 from counting import changed, ended, expect, outcome
 from der import integer, sequence, written
 from krb import Refused, Status, frames, messages, pac, spnego
+from tables import rows_in
 
 TYPES = {1, 2, 6, 7, *range(10, 20)}
 
@@ -416,9 +417,7 @@ def try_lengths(octets):
 def main():
     random.seed(3244)
     seen = dict.fromkeys(("pac", "unlisted", "token", "init", "resp", "password", "proxy"), 0)
-    with open(sys.argv[1], encoding="ascii") as table:
-        rows = [line.rstrip("\n").split("\t") for line in table]
-    for kind, digits in rows:
+    for kind, digits in rows_in(sys.argv[1]):
         octets = bytes.fromhex(digits)
         seen[kind] += 1
         count = 400

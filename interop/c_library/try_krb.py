@@ -1,4 +1,4 @@
-"""Tries the Python package: try_krb.py VECTORS MESSAGES FIELDS, in an environment that has it installed. The last line is `N passed, N failed`."""
+"""Tries the Python package: try_krb.py CALLS MESSAGES FIELDS, in an environment that has it installed. The last line is `N passed, N failed`."""
 
 import concurrent.futures
 import ctypes
@@ -10,6 +10,7 @@ import krb
 from counting import ended, expect, outcome
 from krb import Refused, Status
 from krb import crypto, gss, messages
+from tables import rows_in
 
 SUITES = {16: (24, 8, 20, 12), 17: (16, 16, 12, 15), 18: (32, 16, 12, 16), 19: (16, 16, 16, 19), 20: (32, 16, 24, 20)}
 PARTS = {
@@ -21,13 +22,6 @@ PARTS = {
     28: messages.Part.PRIV_PART,
     29: messages.Part.CRED_PART,
 }
-
-
-def rows(name, count):
-    with open(name, encoding="ascii") as table:
-        for line in table:
-            if not line.startswith("#"):
-                yield (line.rstrip("\n").split("\t") + [""] * count)[:count]
 
 
 def kept_outcome(number, key, answer, wanted):
@@ -190,15 +184,16 @@ def turn(number):
 
 
 def main():
-    for row in rows(sys.argv[1], 8):
+    messages_of = [(int(number), bytes.fromhex(digits)) for number, digits in rows_in(sys.argv[2])]
+    for row in rows_in(sys.argv[1]):
         try_row(row)
-    for number, octets in rows(sys.argv[2], 2):
-        try_message(int(number), bytes.fromhex(octets))
-    for row in rows(sys.argv[3], 10):
+    for number, octets in messages_of:
+        try_message(number, octets)
+    for row in rows_in(sys.argv[3]):
         try_field(row)
-    for number, octets in rows(sys.argv[2], 2):
-        if number == "10":
-            try_other_fields(10, bytes.fromhex(octets))
+    for number, octets in messages_of:
+        if number == 10:
+            try_other_fields(10, octets)
     try_forms()
     with concurrent.futures.ThreadPoolExecutor(16) as pool:
         for number, right in enumerate(pool.map(turn, range(2000))):

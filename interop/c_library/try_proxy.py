@@ -17,6 +17,7 @@ from der import element, explicit, field, put, text, tree, written  # noqa: E402
 from expect_fields import FIELDS, found as place_of  # noqa: E402
 from krb import Refused, Status, proxy  # noqa: E402
 from mutants import Request, body, framed, password_frame  # noqa: E402
+from tables import rows_in  # noqa: E402
 
 CLIENT, SERVER, TICKET_SERVER = 3, 4, 24
 # What kadmind of MIT Kerberos 1.20.1 sends where it cannot read the AP-REQ: a frame of no AP-REP, and a KRB-ERROR (RFC 3244, 2).
@@ -225,10 +226,8 @@ def try_statuses():
 
 def main():
     random.seed(3656)
-    with open(sys.argv[1], encoding="ascii") as table:
-        rows = [(int(number), bytes.fromhex(digits)) for number, digits in (line.split() for line in table if not line.startswith("#"))]
-    with open(sys.argv[2], encoding="ascii") as table:
-        frames = [bytes.fromhex(digits) for kind, digits in (line.split() for line in table) if kind == "password"]
+    rows = [(int(number), bytes.fromhex(digits)) for number, digits in rows_in(sys.argv[1])]
+    frames = [bytes.fromhex(digits) for kind, digits in rows_in(sys.argv[2]) if kind == "password"]
     try_other_messages(rows)
     seen = dict.fromkeys(("request", "change", "reply", "change's reply"), 0)
     for number, message in rows:

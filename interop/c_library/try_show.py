@@ -16,11 +16,7 @@ from tables import asked
 
 # How a line of a PAC begins, one of the checksum of RFC 4121 (4.1.1), and one of the message behind its length that a KDC-PROXY-MESSAGE holds.
 FORMATS = re.compile(r" *(ulType: |Lgth: |kerb-message:$)")
-APPLICATIONS = {
-    0x61: "Ticket", 0x62: "Authenticator", 0x63: "EncTicketPart", 0x6A: "AS-REQ", 0x6B: "AS-REP", 0x6C: "TGS-REQ", 0x6D: "TGS-REP", 0x6E: "AP-REQ",
-    0x6F: "AP-REP", 0x75: "KRB-PRIV", 0x76: "KRB-CRED", 0x79: "EncASRepPart", 0x7A: "EncTGSRepPart", 0x7B: "EncAPRepPart", 0x7C: "EncKrbPrivPart",
-    0x7D: "EncKrbCredPart", 0x7E: "KRB-ERROR",
-}
+APPLICATIONS = {0x60 + number: name for number, name in der.MESSAGES.items()}
 KERBEROS = bytes.fromhex("2a864886f712010202")  # 1.2.840.113554.1.2.2 (RFC 1964, 1)
 # What pages call an element of these types, by the name of RFC 4556 and RFC 5349 that they share with others.
 HEADINGS = {"DHSubjectPublicKeyInfo": "SubjectPublicKeyInfo", "DHAuthPack": "AuthPack", "ECAuthPack": "AuthPack"}

@@ -11,6 +11,7 @@ import dpkt
 
 from checks import expect, say
 from compare import HEAD
+from octets import framed, octets_in
 from others import BASIC
 from script import PYTHON
 
@@ -158,10 +159,6 @@ def requests(capture):
     return found
 
 
-def framed(octets):
-    return struct.pack(">I", len(octets)) + octets
-
-
 def try_streams(realm, environment, request):
     """Streams with octets that are missing, or that are none of Kerberos; `request` is an AS-REQ of ann's."""
     told_as, whole = "AS-REQ ann@HOME.TEST asks for krbtgt/HOME.TEST@HOME.TEST", framed(request)
@@ -276,9 +273,7 @@ def try_headers(realm, environment, token):
 
 def try_files(realm, environment, capture):
     """Files that are cut, are none, or cannot be read, and a machine without tshark."""
-    with open(capture, "rb") as file:
-        octets = file.read()
-    whole = told(environment, capture)[1]
+    octets, whole = octets_in(capture), told(environment, capture)[1]
     draw, path, shorter = random.Random(SEED), realm.path("cut.pcap"), 0
     for size in sorted(draw.sample(range(len(octets)), 25)) + list(range(0, 44, 6)):
         with open(path, "wb") as file:

@@ -1,6 +1,5 @@
 """Other programs that speak Kerberos: curl and a web page, Heimdal's clients, Samba's domain (whose KDC is Heimdal's) with its LDAP and SMB."""
 
-import glob
 import os
 import re
 import subprocess
@@ -9,7 +8,7 @@ import time
 from checks import say
 from recorded import Recording
 from realm import PASSWORD, REALM
-from script import HEIMDAL, TOP, module_of
+from script import TOP, module_of
 
 SERVE = os.path.join(TOP, "examples", "http_negotiate", "serve.py")
 BASIC = "a secret word"  # a password that goes by in Basic, and is nobody's business
@@ -28,31 +27,15 @@ def web_page(realm, environment, path):
     return right and codes == ["200", "401", "401"]
 
 
-def heimdal_packages(folder):
-    """The files of Heimdal's packages; none where they cannot be had."""
-    os.mkdir(folder)
-    subprocess.run(["apt-get", "download", "-qq", *HEIMDAL], cwd=folder, capture_output=True, timeout=300)
-    found = glob.glob(os.path.join(folder, "*.deb"))
-    return found if len(found) == len(HEIMDAL) else []
-
-
 class Heimdal:
-    """Heimdal's programs, unpacked into the realm's folder."""
+    """Heimdal's clients in a realm."""
 
-    def __init__(self, realm, packages):
-        self.realm, self.root = realm, realm.path("heimdal")
-        for package in packages:
-            subprocess.run(["dpkg", "-x", package, self.root], check=True)
-        places = os.path.join(self.root, "usr", "lib", "*")
-        self.libraries = ":".join(glob.glob(places) + glob.glob(os.path.join(places, "heimdal")))
-        self.environment = dict(realm.environment, LD_LIBRARY_PATH=self.libraries, KRB5CCNAME="FILE:" + realm.path("heimdal.cache"))
-
-    def program(self, name):
-        (found,) = [each for place in ("bin", "sbin", "lib/heimdal-servers") for each in glob.glob(os.path.join(self.root, "usr", place, name))][:1]
-        return found
+    def __init__(self, realm, programs):
+        self.realm, self.programs = realm, programs
+        self.environment = dict(realm.environment, LD_LIBRARY_PATH=programs.libraries, KRB5CCNAME="FILE:" + realm.path("heimdal.cache"))
 
     def run(self, name, *words):
-        return self.realm.client(self.environment, self.program(name), *words)
+        return self.realm.client(self.environment, self.programs.path(name), *words)
 
     def conversation(self):
         """Initial tickets with the right password and with another one, tickets for services, and one that is not there."""

@@ -10,7 +10,8 @@ import krb
 from changes import EACH, KINDS, Keys, Reply, without_fast
 from checks import expect, say
 from realm import REALM, SUITES
-from relay import Relay
+from refusals import rule_of
+from servers import Relay
 
 FIRST, FURTHER = "AS-REP", "TGS-REP"
 
@@ -30,13 +31,13 @@ class Changing:
             return reply
 
 
-def outcome(call):
-    """The name of the rule, or None where a ticket is granted."""
-    try:
-        call()
-        return None
-    except krb.NotGranted as refused:
-        return refused.rule.name
+    def each(self, counts, numbers):
+        """Sets each kind in turn, so many times: the message, the kind, its count, and one of the numbers."""
+        for (message, kind), count in counts.items():
+            self.kind = dict(KINDS)[kind]
+            for n in range(EACH):
+                self.made = self.failed = None
+                yield message, kind, count, numbers[n % len(numbers)]
 
 
 def judged(title, changing, rule):
@@ -67,17 +68,14 @@ def try_between(realm, seed):
     for number in numbers:
         for message, call in calls.items():
             changing.made = None
-            judged("%s, %s, sealed again" % (message, SUITES[number]), changing, outcome(lambda: call(number)))
-    for (message, kind), count in counts.items():
-        changing.kind = dict(KINDS)[kind]
-        for n in range(EACH):
-            changing.made = changing.failed = None
-            rule = outcome(lambda: calls[message](numbers[n % len(numbers)]))
-            judged("%s, %s" % (message, kind), changing, rule)
-            count["all"] += 1
-            if changing.made is not None:
-                count["may"] += changing.made.wanted
-            count["ours"] += rule is None
+            judged("%s, %s, sealed again" % (message, SUITES[number]), changing, rule_of(lambda: call(number)))
+    for message, kind, count, number in changing.each(counts, numbers):
+        rule = rule_of(lambda: calls[message](number))
+        judged("%s, %s" % (message, kind), changing, rule)
+        count["all"] += 1
+        if changing.made is not None:
+            count["may"] += changing.made.wanted
+        count["ours"] += rule is None
     seconds = time.monotonic() - begun
     try_mit(realm, relay, changing, counts, held, seed)
     relay.stop()
@@ -104,14 +102,11 @@ def try_mit(realm, relay, changing, counts, held, seed):
     changing.kind = lambda chance, reply: reply.resealed()
     for number in numbers:
         expect(run(FIRST, number) and run(FURTHER, number), "MIT, %s: what is sealed again without a change" % SUITES[number])
-    for (message, kind), count in counts.items():
-        changing.kind = dict(KINDS)[kind]
-        for n in range(EACH):
-            changing.made = changing.failed = None
-            taken = run(message, numbers[n % len(numbers)])
-            expect(changing.made is not None and changing.failed is None, "MIT, %s, %s: no change was made: %r" % (message, kind, changing.failed))
-            count["mit"] += taken
-            count["mit past a rule"] += taken and changing.made is not None and not changing.made.wanted
+    for message, kind, count, number in changing.each(counts, numbers):
+        taken = run(message, number)
+        expect(changing.made is not None and changing.failed is None, "MIT, %s, %s: no change was made: %r" % (message, kind, changing.failed))
+        count["mit"] += taken
+        count["mit past a rule"] += taken and changing.made is not None and not changing.made.wanted
 
 
 def print_table(counts, seed, seconds):

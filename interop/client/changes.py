@@ -1,14 +1,15 @@
 """Replies of a KDC that are changed, and whether a client may take them, by how they were made.
 
 Of each change it is known whether a ticket may be granted (`wanted`), and of a refusal the names of the rules of docs/CLIENT.md of which one is to be named. What a change
-under the reply's key needs is opened and sealed by interop/acceptor/sealing.py, which has nothing of the library."""
+under the reply's key needs is opened and sealed by interop/ciphers.py, which has nothing of the library."""
 
 import time
 from typing import NamedTuple
 
 from der import element, elements, field, integer, name, number_of, put, seconds_of, sequence, stamp, text, tree, walk, written
 from keytabs import keys_of
-from sealing import KEY_SIZES, decrypt, encrypt
+from ciphers import KEY_SIZES, decrypt, encrypt
+from octets import flipped, octets_in
 
 AS_REP, TGS_REP = 0x6B, 0x6D
 AS_USAGE, TGS_USAGE, SESSION_USAGE = 3, 9, 8
@@ -30,8 +31,7 @@ class Keys:
     def __init__(self, users, granting):
         self._keys = {}
         for path in (users, granting):
-            with open(path, "rb") as file:
-                self._keys.update(keys_of(file.read()))
+            self._keys.update(keys_of(octets_in(path)))
 
     def _of(self, realm, components, etype, kvno=None):
         found = [(version, key) for (of, names, version, kind), key in self._keys.items() if (of, names, kind) == (realm, components, etype) and kvno in (None, version)]
@@ -123,10 +123,6 @@ def granted(what, octets):
 
 
 MALFORMED = "MESSAGE", "OTHER_MESSAGE"
-
-
-def flipped(octets, at, bit):
-    return octets[:at] + bytes([octets[at] ^ 1 << bit]) + octets[at + 1 :]
 
 
 def heads(octets, at=0, end=None):

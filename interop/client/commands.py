@@ -9,6 +9,7 @@ import time
 import krb
 from checks import expect, say
 from exchanges import GRANTING, listed
+from octets import octets_in
 from realm import PASSWORD, REALM
 from tables import asked
 
@@ -112,8 +113,7 @@ def try_commands(realm, environment):
     expect(status == 1 and "HTTP/localhost" in out and err.startswith("kvno: HTTP/nowhere@"), "kvno of an unknown one: %s %s" % (out, err))
     # What MIT's kinit and kvno wrote, read and written anew.
     found = krb.client.load_all(mit)
-    with open(mit, "rb") as file:
-        octets = file.read()
+    octets = octets_in(mit)
     expect({each.server for each in found} == {GRANTING, "HTTP/localhost@" + REALM, "e17/localhost@" + REALM} and found[0].client == USER, "MIT's file: %s" % found)
     from krb import _ccache
 
@@ -152,7 +152,7 @@ def try_commands(realm, environment):
     off = time.time() + 3600
     krb.client.change_password("changing@" + REALM, PASSWORD, "one more password", kdc=realm.kdc, server=server, clock=lambda: off)
     expect(krb.kinit("changing@" + REALM, "one more password", kdc=realm.kdc).is_valid, "a password that is changed by a clock that is off")
-    from relay import Relay
+    from servers import Relay
 
     def last_bit(request, reply):
         return reply[:-1] + bytes([reply[-1] ^ 1])

@@ -8,8 +8,9 @@ import time
 import krb
 from checks import expect, say
 from home import OTHER, REFUSED
+from octets import octets_in
 from realm import PASSWORD, REALM, SUITES
-from relay import Datagrams, Relay, asked, both
+from servers import Datagrams, Relay, asked, both
 
 GRANTING = "krbtgt/%s@%s" % (REALM, REALM)
 RULE = krb.ClientRule
@@ -81,9 +82,8 @@ def try_first(realm):
                     expect(got.is_valid and "initial" in got.flags and got.renew_till is None, "%s: %s" % (title, got.flags))
                     expect(("pre-authent" in got.flags) == user.startswith("u"), "%s: %s" % (title, got.flags))
             try_saved(realm, client, got, client, suite)
-    with open(realm.users, "rb") as file:
-        for keytab in (file.read(), pathlib.Path(realm.users)):
-            expect(krb.kinit("ann@" + REALM, keytab=keytab, kdc=realm.kdc).is_valid, "a keytab as %s" % type(keytab).__name__)
+    for keytab in (octets_in(realm.users), pathlib.Path(realm.users)):
+        expect(krb.kinit("ann@" + REALM, keytab=keytab, kdc=realm.kdc).is_valid, "a keytab as %s" % type(keytab).__name__)
     got = krb.kinit("ann@" + REALM, PASSWORD, kdc=realm.kdc)
     expect(got.session_key.etype == 18, "the first of the order is 18, and not %d" % got.session_key.etype)
     for order in ((20, 19, 17), (19, 17), (17, 20)):
@@ -219,9 +219,7 @@ def try_referrals(realm):
     for name in ("HTTP/www.other.test@" + OTHER, "HTTP/www.other.test@" + REALM):
         ticket = got.ticket_for(name, realms=[OTHER])
         expect(ticket.server == "HTTP/www.other.test@" + OTHER and ticket.client == "ann@" + REALM, "%s: %s" % (name, ticket))
-        with open(realm.other_keytab, "rb") as file:
-            keytab = file.read()
-        context = krb.Acceptor(keytab, replay_cache=False).accept(krb.Initiator(ticket).token())
+        context = krb.Acceptor(octets_in(realm.other_keytab), replay_cache=False).accept(krb.Initiator(ticket).token())
         expect(context.client == "ann@" + REALM, "%s: the service lets in %s" % (name, context.client))
     refusal("a referral that is not asked for", lambda: got.ticket_for("HTTP/www.other.test"), RULE.KDC, 7)
     refusal("a referral to a realm that is not listed", lambda: got.ticket_for("HTTP/www.other.test", realms=["ELSE.TEST"]), RULE.TICKET)

@@ -18,6 +18,7 @@ class Home(Realm):
     def __init__(self, home):
         super().__init__(home)
         self.users, self.granting, self.wrong, self.other_keytab = map(self.path, ("users", "granting", "wrong", "other-keytab"))
+        self.environment["KRB5_KTNAME"] = "FILE:" + self.keytab
         self.client_config(self.port, "krb5.conf")
         self.password_port, lines = free_port(), "  max_renewable_life = 2d\n"
         admin = "  kadmind_listen = 127.0.0.1:%d\n  kpasswd_listen = 127.0.0.1:%d\n" % (free_port(), self.password_port)

@@ -195,6 +195,17 @@ def try_errors(realm, credentials, ticket):
                 expect(error.rule == RULE.KDC and str(error) == "KDC: the service reports " + name, "a KRB-ERROR: %s, and not %s" % (error, name))
 
 
+def try_negotiation(title, ticket, one, other):
+    """Both sides know each other at the end, and each other's MICs hold."""
+    sent, failures = talk(one, other)
+    if expect(one.is_complete() and other.is_complete() and failures == [None, None], "%s: %s, %s" % (title, failures, [each.hex() for each in sent])):
+        expect(one.peer() == ticket.server and other.peer() == USER, "%s: %s and %s" % (title, one.peer(), other.peer()))
+        text = os.urandom(50)
+        expect(other.verify(text, one.mic(text)), "%s: a MIC of the client's" % title)
+        mic = other.mic(text)
+        expect(not one.verify(text + b"!", mic) and one.verify(text, mic), "%s: a MIC of the service's" % title)
+
+
 def try_negotiations(realm, ticket):
     """`krb.Negotiator` with `krb.KerberosInitiator` before MIT's SPNEGO and our own; MICs are asked for, and another mechanism is offered first, too."""
     from sides import lent
@@ -207,14 +218,7 @@ def try_negotiations(realm, ticket):
             for title, make in makers:
                 title = "SPNEGO, %s, mutual %s, before Kerberos %s" % (title, mutual, names or "nothing")
                 one, other = OurSide(INITIATOR, [*lent(names, ()), krb.KerberosInitiator(ticket, mutual=mutual)]), make()
-                sent, failures = talk(one, other)
-                if not expect(one.is_complete() and other.is_complete() and failures == [None, None], "%s: %s, %s" % (title, failures, [each.hex() for each in sent])):
-                    continue
-                expect(one.peer() == ticket.server and other.peer() == USER, "%s: %s and %s" % (title, one.peer(), other.peer()))
-                text = os.urandom(50)
-                expect(other.verify(text, one.mic(text)), "%s: a MIC of the client's" % title)
-                mic = other.mic(text)
-                expect(not one.verify(text + b"!", mic) and one.verify(text, mic), "%s: a MIC of the service's" % title)
+                try_negotiation(title, ticket, one, other)
     say("SPNEGO")
 
 
@@ -234,13 +238,7 @@ def try_heimdal(realm, ticket):
         for mutual in (True, False):
             title = "SPNEGO, Heimdal, mutual %s" % mutual
             one, other = OurSide(INITIATOR, [krb.KerberosInitiator(ticket, mutual=mutual)]), ProgramSide(running, ACCEPTOR)
-            sent, failures = talk(one, other)
-            if expect(one.is_complete() and other.is_complete() and failures == [None, None], "%s: %s, %s" % (title, failures, [each.hex() for each in sent])):
-                expect(one.peer() == ticket.server and other.peer() == USER, "%s: %s and %s" % (title, one.peer(), other.peer()))
-                text = os.urandom(50)
-                expect(other.verify(text, one.mic(text)), "%s: a MIC of the client's" % title)
-                mic = other.mic(text)
-                expect(not one.verify(text + b"!", mic) and one.verify(text, mic), "%s: a MIC of the service's" % title)
+            try_negotiation(title, ticket, one, other)
     finally:
         running.end()
     say("SPNEGO with Heimdal")

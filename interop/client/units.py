@@ -3,12 +3,13 @@
 import os
 import pickle
 import sys
-import threading
 
 import krb
 from checks import expect, say
 from krb import __main__ as command
 from krb import _ccache, _configuration, _dns, _exchange, _kdc, _names, _times
+from refusals import rule_of
+from script import at_once
 
 
 def raises(kind, call):
@@ -122,22 +123,14 @@ def try_rest(realm):
     expect(raises(ValueError, lambda: krb.kinit("a@R")) and raises(ValueError, lambda: krb.kinit("a@R", "x", b"y")), "a password or a keytab")
 
 
-def rule_of(call):
-    try:
-        call()
-        return None
-    except krb.NotGranted as refused:
-        return refused.rule
-
-
 def try_turns():
     """An exchange begins once, by no octets, and takes none later; one for a further ticket may begin with the KDC's time."""
-    other, wanted = krb.ClientRule.OTHER_MESSAGE, _exchange.Wanted(_names.parsed("a@R"), _names.ticket_granting("R"), (18,))
+    other, wanted = "OTHER_MESSAGE", _exchange.Wanted(_names.parsed("a@R"), _names.ticket_granting("R"), (18,))
     exchange = _exchange.Exchange(wanted, _exchange.Limits(), lambda: 1.5, b"x")
-    expect(rule_of(lambda: exchange.step(b"")) == other and rule_of(lambda: exchange.step(b"\x6b\0")) == other, "an exchange that has not begun takes octets")
+    expect(rule_of(exchange.step, b"") == other and rule_of(exchange.step, b"\x6b\0") == other, "an exchange that has not begun takes octets")
     expect(exchange.begin().follows == _exchange.Follows.SENDS, "an exchange does not begin")
-    expect(rule_of(lambda: exchange.step(b"")) == other and rule_of(exchange.begin) == other, "an exchange begins anew")
-    expect(rule_of(lambda: exchange.step(b"\x6b\0")) == krb.ClientRule.MESSAGE, "an exchange that has begun takes no octets")
+    expect(rule_of(exchange.step, b"") == other and rule_of(exchange.begin) == other, "an exchange begins anew")
+    expect(rule_of(exchange.step, b"\x6b\0") == "MESSAGE", "an exchange that has begun takes no octets")
 
 
 def try_times():
@@ -147,13 +140,9 @@ def try_times():
     def draw(count, clock, *offsets):
         given.extend([_times.moment(clock, offset) for _ in range(count) for offset in offsets])
 
-    threads = [threading.Thread(target=draw, args=(500, lambda: now[0], 0, 3, -2)) for _ in range(8)]
     usual = sys.getswitchinterval()
     sys.setswitchinterval(1e-6)  # threads take turns within a call, so that what is not locked is seen
-    for each in threads:
-        each.start()
-    for each in threads:
-        each.join()
+    at_once(8, lambda: draw(500, lambda: now[0], 0, 3, -2))
     sys.setswitchinterval(usual)
     expect(max(given) < (1795763475, 0) and min(given) == (1795763468, 250000), "a clock that stands: %s to %s" % (min(given), max(given)))
     now[0] -= 5000

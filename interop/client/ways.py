@@ -7,7 +7,7 @@ import time
 import krb
 from checks import expect, say
 from realm import PASSWORD, REALM, free_port
-from relay import Datagrams, Relay, Saying, Server, framed
+from servers import Datagrams, Relay, Saying, Server, framed, name_in
 from script import TOP
 
 HERE = os.path.dirname(os.path.abspath(__file__))
@@ -136,12 +136,8 @@ def answers(records, code=0, cut=False, wrong=0):
     """A name server's answers: the SRV records of each name, with the question's name and the target's end compressed."""
 
     def answer(_, query):
-        at, labels = 12, []
-        while query[at]:
-            labels.append(query[at + 1 : at + 1 + query[at]].decode())
-            at += 1 + query[at]
-        question = query[12 : at + 5]
-        found = records.get(".".join(labels), [])
+        name, end = name_in(query)
+        question, found = query[12 : end + 4], records.get(name, [])
         body = b""
         for priority, weight, port, target in found:
             data = struct.pack(">HHH", priority, weight, port) + named(target)

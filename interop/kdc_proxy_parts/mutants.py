@@ -4,15 +4,12 @@ from collections import namedtuple
 
 import judge
 from der import element, field, nodes, put, text, tree, walk, written
+from octets import flipped, framed
 
 REFUSED, UNCHANGED = "refused", "goes on unchanged"
 # What kind of change it is, what is certain to become of it (None where that is for the judge to say), and the octets.
 Mutant = namedtuple("Mutant", "kind certain octets")
 AS_REQ, TGS_REQ = 0x6A, 0x6C
-
-
-def framed(message):
-    return len(message).to_bytes(4, "big") + message
 
 
 def body(kerb_message, domain):
@@ -41,10 +38,6 @@ class Request:
     def place(self, part):
         """How many octets are before this part."""
         return self.octets.index(self.parts[part])
-
-
-def flipped(octets, place, bit):
-    return octets[:place] + bytes([octets[place] ^ 1 << bit]) + octets[place + 1 :]
 
 
 # The kinds. Each is a function of a source of chance, a request, and all replies.

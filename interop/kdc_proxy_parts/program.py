@@ -1,21 +1,13 @@
 """`jolmurig proxy` as a program that is run, and what it says, by the rules of this script's own."""
 
-import subprocess
-
 import judge
 import mutants
 import rules
+from der import MESSAGES
+from jolmurig import is_refused, ran
+from octets import framed
 
-NAMES = {
-    10: "AS-REQ",
-    11: "AS-REP",
-    12: "TGS-REQ",
-    13: "TGS-REP",
-    14: "AP-REQ",
-    15: "AP-REP",
-    21: "KRB-PRIV",
-    30: "KRB-ERROR",
-}
+NAMES = [MESSAGES[number] for number in judge.TYPES]
 # What a line of an error begins with, by the rule that is broken.
 WORDS = {
     "PROXY_TOO_LARGE": "proxy: TooLarge",
@@ -51,7 +43,7 @@ def line_of(request):
 def lines_of(broken):
     """What the line of an error may begin with, by the rules that may be broken first."""
     beginnings = [WORDS[rule] for rule in broken if rule in WORDS]
-    beginnings += ["%s: %s" % (message, OF_MESSAGES[rule]) for rule in broken if rule in OF_MESSAGES for message in NAMES.values()]
+    beginnings += ["%s: %s" % (message, OF_MESSAGES[rule]) for rule in broken if rule in OF_MESSAGES for message in NAMES]
     return tuple("jolmurig: %s: " % each for each in beginnings)
 
 
@@ -62,19 +54,18 @@ class Program:
         self.path = path
 
     def run(self, direction, octets):
-        return subprocess.run([self.path, "proxy", direction], input=octets, env={}, capture_output=True, timeout=60)
+        return ran(["proxy", direction], octets, self.path)
 
     def is_refused(self, done, broken):
         """Whether nothing was written, and the line names a rule that may be the first that is broken."""
-        text = done.stderr.decode("ascii")
-        return (done.returncode, done.stdout) == (1, b"") and text.startswith(lines_of(broken)) and text.find("\n") == len(text) - 1
+        return is_refused(done) and done.stderr.decode("ascii").startswith(lines_of(broken))
 
     def is_right(self, octets):
         """Whether the program says of the octets as a request what the judge does."""
         request, done = judge.outcome(octets), self.run("request", octets)
         if request is None:
             return self.is_refused(done, rules.of_request(octets))
-        return (done.returncode, done.stdout, done.stderr.decode("ascii")) == (0, mutants.framed(request.message), line_of(request))
+        return (done.returncode, done.stdout, done.stderr.decode("ascii")) == (0, framed(request.message), line_of(request))
 
     def is_right_reply(self, stream):
         """The same of what a server sent over a stream."""

@@ -1,89 +1,17 @@
-"""A realm of MIT Kerberos on 127.0.0.1 in a folder of its own, its clients by way of a proxy alone, and relays that keep what reaches its servers."""
+"""A realm of MIT Kerberos on 127.0.0.1 in a folder of its own, its clients by way of a proxy alone, relays that keep what reaches its servers, and proxies."""
 
+import http.client
+import json
 import os
-import socket
-import threading
-import time
+import ssl
 
-from name_server import NameServer
 from realm import SUITES, Servers, defaults, free_port
+from script import PATHS, PYTHON, with_library
+from servers import Keeping, NameServer
 
+HERE = os.path.dirname(os.path.abspath(__file__))
 REALM = "PROXY.TEST"
-
-
-class Relay:
-    """A TCP relay on 127.0.0.1 before a server, which keeps all octets that come for it. Where `answer` is set they are not sent on: it is called with the
-    connection to answer in the server's place."""
-
-    def __init__(self, port):
-        self.to, self.answer, self._kept, self._lock, self._open = port, None, [], threading.Lock(), 0
-        self._listener = socket.create_server(("127.0.0.1", 0))
-        self.port = self._listener.getsockname()[1]
-        threading.Thread(target=self._accept, daemon=True).start()
-
-    def _accept(self):
-        while True:
-            try:
-                link, _ = self._listener.accept()
-            except OSError:
-                return
-            with self._lock:
-                kept = bytearray()
-                self._kept.append(kept)
-                self._open += 1
-            threading.Thread(target=self._serve, args=(link, kept), daemon=True).start()
-
-    def _serve(self, link, kept):
-        try:
-            link.settimeout(60)
-            if self.answer is not None:
-                kept += link.recv(1 << 20)
-                self.answer(link)
-                return
-            with socket.create_connection(("127.0.0.1", self.to), 60) as server:
-                back = threading.Thread(target=self._back, args=(server, link), daemon=True)
-                back.start()
-                while True:
-                    part = link.recv(1 << 20)
-                    kept += part
-                    if not part:
-                        break
-                    server.sendall(part)
-                server.shutdown(socket.SHUT_WR)
-                back.join()
-        except OSError:
-            pass
-        finally:
-            link.close()
-            with self._lock:
-                self._open -= 1
-
-    @staticmethod
-    def _back(server, link):
-        try:
-            while True:
-                part = server.recv(1 << 20)
-                if not part:
-                    break
-                link.sendall(part)
-            link.shutdown(socket.SHUT_RDWR)
-        except OSError:
-            pass
-
-    def take(self):
-        """What came since the last time: the octets of each connection, once all have ended."""
-        end = time.monotonic() + 60
-        while time.monotonic() < end:
-            with self._lock:
-                if not self._open:
-                    kept, self._kept = self._kept, []
-                    return [bytes(each) for each in kept]
-            time.sleep(0.001)
-        raise TimeoutError("a connection of the relay does not end")
-
-    def stop(self):
-        self._listener.shutdown(socket.SHUT_RDWR)
-        self._listener.close()
+LIMIT, SECONDS = 131072, 2  # how many octets the proxies take, and how long they wait for a server
 
 
 class ProxiedRealm(Servers):
@@ -92,7 +20,7 @@ class ProxiedRealm(Servers):
     def __init__(self, home):
         super().__init__(home, REALM, KRB5_CONFIG=os.path.join(home, "servers.conf"), KRB5RCACHEDIR=home)
         self.admin_port, self.password_port = free_port(), free_port()
-        self.kdc, self.kpasswd = Relay(self.port), Relay(self.password_port)
+        self.kdc, self.kpasswd = Keeping(self.port), Keeping(self.password_port)
         self.names = NameServer()
         # A server that is not named would take a fixed port below 1024.
         self.write_client("servers.conf")
@@ -123,3 +51,55 @@ class ProxiedRealm(Servers):
         super().stop()
         self.kdc.stop()
         self.kpasswd.stop()
+
+
+class Proxy:
+    """A proxy behind HTTPS, in a process of its own, and what it answered."""
+
+    def __init__(
+        self, realm, name, library, any_target_domain=False, seconds=SECONDS, use_dns="false", kdc=None
+    ):
+        self.realm, self.name, self.port = realm, name, free_port()
+        own = "\n".join(["[proxy]", "limit = %d" % LIMIT, "seconds = %s" % seconds, "any_target_domain = %s" % ("yes" if any_target_domain else "no"), ""])
+        servers = {"kdc": realm.kdc.port, "kpasswd": realm.kpasswd.port}
+        names = [REALM] + (["SHORT"] if any_target_domain else [])
+        before = "127.0.0.1:%d " % free_port() if any_target_domain else ""  # a server that is down
+        realms = "".join("[%s]\n%s" % (name, "".join("%s = %s127.0.0.1:%d\n" % (service, before, port) for service, port in servers.items())) for name in names)
+        if kdc:
+            realms = "[%s]\nkdc = %s\n" % (REALM, kdc)
+        realm.write("kdc_proxy-%d.conf" % self.port, own + realms)
+        uris = "".join("[%s]\nkerberos = kerberos+tcp://127.0.0.1:%d\nkpasswd = kpasswd+tcp://127.0.0.1:%d\n" % (name, *servers.values()) for name in names)
+        realm.write("kdcproxy-%d.conf" % self.port, "[global]\nuse_dns = %s\n" % use_dns + uris)
+        environment = {
+            **with_library({"PATH": PATHS}, library),
+            "HOME": realm.home,
+            "KDC_PROXY_CONFIG": realm.path("kdc_proxy-%d.conf" % self.port),
+            "KDCPROXY_CONFIG": realm.path("kdcproxy-%d.conf" % self.port),
+            "KDC_PROXY_ANY_TARGET_DOMAIN": "yes" if any_target_domain else "no",
+            "NAME_SERVER": str(realm.names.port),
+        }
+        self.context = ssl.create_default_context(cafile=realm.path("cert.pem"))
+        realm.start([PYTHON, os.path.join(HERE, "serve.py"), name, str(self.port), realm.home], environment, self.port)
+
+    def post(self, octets, method="POST", length=None, kind="application/kerberos"):
+        """The status and the body that are answered to these octets; keeps the headers."""
+        link = http.client.HTTPSConnection("127.0.0.1", self.port, timeout=60, context=self.context)
+        try:
+            link.putrequest(method, "/KdcProxy")
+            if kind is not None:
+                link.putheader("Content-Type", kind)
+            if length is not False:
+                link.putheader("Content-Length", str(len(octets)) if length is None else length)
+            link.endheaders(octets)
+            answer = link.getresponse()
+            self.headers = answer.headers
+            return answer.status, answer.read()
+        finally:
+            link.close()
+
+    def records(self):
+        try:
+            with open(self.realm.path("record-%d" % self.port), encoding="ascii") as file:
+                return [json.loads(line) for line in file]
+        except FileNotFoundError:
+            return []

@@ -125,7 +125,7 @@ def try_keyboard(browser, site):
     browser.press("Enter")
     settled(browser)
     text = lambda: browser.run("return document.getElementById('tree').innerText")
-    expect('"key 1"' in text() and "keyvalue:" in text() and secret not in text() and "hidden" in text(), "a key by the keyboard: %r" % text()[-200:])
+    expect('"key 1@given kvno 1"' in text() and "keyvalue:" in text() and secret not in text() and "hidden" in text(), "a key by the keyboard: %r" % text()[-200:])
     tab_to(browser, "show", back=True) if browser.run(ACTIVE) not in ("keys",) else tab_to(browser, "show")
     browser.press("Space")
     browser.run("return new Promise((done) => setTimeout(done, 300))")

@@ -2,13 +2,12 @@
 
 import base64
 import calendar
-import hashlib
-import hmac
 import json
 import re
 import struct
 
 from checks import expect, say
+from ciphers import key_of_password
 from der import element, integer, name, sequence, text
 from given import buffers, checksums, error_with, misleading, opened, pages
 from keytabs import keytab_of_texts
@@ -61,12 +60,6 @@ return [...document.querySelectorAll("#tree li")].map((item) => {
         document.getElementById("source").value];
 });
 """
-
-
-def key_of(password, salt):
-    """The key of type 20 of a password (RFC 8009, 4 and 3), by hashlib."""
-    first = hashlib.pbkdf2_hmac("sha384", password, b"aes256-cts-hmac-sha384-192\0" + salt, 32768, 32)
-    return hmac.new(first, b"\0\0\0\1kerberos\0" + (256).to_bytes(4, "big"), hashlib.sha384).digest()[:32]
 
 
 def shown(browser, octets, kind="", keytabs=(), keys="", password="", salt="", show=False, form="hex"):
@@ -236,7 +229,7 @@ def json_without_contents(value):
 
 def names_of(keys):
     """What the page calls the keys that it is given, by their names in a row, as they stand in quotation marks."""
-    return {quoted_as(key.split(":", 2)[2].encode())[1:-1]: "key %d" % (number + 1) for number, key in enumerate(keys)}
+    return {quoted_as(key.split(":", 2)[2].encode())[1:-1]: "key %d@given kvno 1" % (number + 1) for number, key in enumerate(keys)}
 
 
 def try_opened(browser):
@@ -347,13 +340,13 @@ def try_password(browser):
     part = element(0x63, sequence((0, [3, bytes(5)]), (1, key), (2, text("HOME.TEST")), (3, name(1, "ann")), (4, transited), (5, time), (7, time)))
 
     def ticket(salt):
-        sealed = krb.messages.seal(krb.messages.Part.TICKET_PART, 20, key_of(b"a password", salt), 2, part)
+        sealed = krb.messages.seal(krb.messages.Part.TICKET_PART, 20, key_of_password(20, b"a password", salt), 2, part)
         encrypted = sequence((0, integer(20)), (1, integer(1)), (2, [4, sealed]))
         return element(0x61, sequence((0, integer(5)), (1, text("HOME.TEST")), (2, name(2, "HTTP", "www.home.test")), (3, encrypted)))
 
     default = ticket(b"HOME.TESTHTTPwww.home.test")
     told = shown(browser, default, password="a password")
-    wanted = ['    opened-by: "the password, salt HOME.TESTHTTPwww.home.test"', '      crealm: "HOME.TEST"']
+    wanted = ['    opened-by: "the password, salt HOME.TESTHTTPwww.home.test@given kvno 1"', '      crealm: "HOME.TEST"']
     expect(all(each in told["lines"] for each in wanted), "a password with the default salt: %s" % told["lines"][-12:])
     try_hidden("a password", told, [bytes(range(100, 116)).hex()])
     expect(bytes(range(100, 116)).hex() in "".join(shown(browser, default, password="a password", show=True)["lines"]), "a key is hidden that was asked for")
@@ -362,7 +355,7 @@ def try_password(browser):
     other = ticket(b"a salt of one's own")
     expect(any("not-opened" in line for line in shown(browser, other, password="a password")["lines"]), "a password opens what another salt made")
     told = shown(browser, other, password="a password", salt="a salt of one's own")
-    expect('    opened-by: "the password, salt a salt of one\'s own"' in told["lines"], "a password with a salt: %s" % told["lines"][-3:])
+    expect('    opened-by: "the password, salt a salt of one\'s own@given kvno 1"' in told["lines"], "a password with a salt: %s" % told["lines"][-3:])
     told = shown(browser, error_with(b"X"), password="a password")
     expect(any("Nothing here is encrypted" in each for each in told["notes"]), "a password with nothing to open: %s" % told["notes"])
     say("passwords: done")

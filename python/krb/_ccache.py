@@ -3,11 +3,13 @@
 import os
 import struct
 import tempfile
-from typing import List, NamedTuple, Optional, Tuple, Union
+from typing import Any, Dict, List, NamedTuple, Optional, Tuple, Union
 
 from krb._context import EncryptionKey
-from krb._items import Secret
+from krb._items import Secret, element_place
+from krb._library import Refused, Status
 from krb._names import Name
+from krb._page_items import nested, page_items
 
 __all__ = ["Cache", "Entry"]
 
@@ -49,7 +51,7 @@ class Cache(NamedTuple):
     entries: Tuple[Entry, ...]
 
 
-# Writing.
+# Writing, of which the library has no call.
 
 
 def _data(octets: bytes) -> bytes:
@@ -100,60 +102,59 @@ def write(path: Union[str, "os.PathLike[str]"], cache: Cache) -> None:
 
 
 class _Reader:
-    def __init__(self, octets: bytes, at: int) -> None:
-        self.octets, self.at = octets, at
+    """What stands at the places that the library tells. A struct has its own under no name."""
 
-    def take(self, size: int) -> bytes:
-        if size > len(self.octets) - self.at:
-            raise ValueError("a credential cache that ends too early")
-        self.at += size
-        return self.octets[self.at - size : self.at]
+    def __init__(self, octets: bytes) -> None:
+        self.octets = octets
 
-    def number(self, size: int) -> int:
-        return int.from_bytes(self.take(size), "big")
+    def number(self, place: slice) -> int:
+        return int.from_bytes(self.octets[place], "big")
 
-    def data(self) -> bytes:
-        return self.take(self.number(4))
-
-    def name(self) -> Name:
-        kind, count = self.number(4), self.number(4)
-        realm = self.data()
-        components = []
-        for _ in range(count):
-            components.append(self.data())
+    def name(self, told: Dict[str, Any]) -> Name:
         try:
-            return Name(realm.decode("ascii"), tuple(each.decode("ascii") for each in components), kind)
+            realm, *components = (self.octets[place].decode("ascii") for place in (told["realm"], *told["components"]))
         except UnicodeDecodeError:
             raise ValueError("a name that is not ASCII in a credential cache") from None
+        return Name(realm, tuple(components), self.number(told["name-type"]))
 
-    def listed(self) -> Tuple[Tuple[int, bytes], ...]:
-        return tuple((self.number(2), self.data()) for _ in range(self.number(4)))
+    def listed(self, told: List[Dict[str, Any]], kind: str, held: str) -> Tuple[Tuple[int, bytes], ...]:
+        return tuple((self.number(each[kind]), self.octets[each[held]]) for each in told)
 
-    def entry(self) -> Entry:
-        client, server = self.name(), self.name()
-        key = EncryptionKey(self.number(2), Secret(self.data()))
-        times = [self.number(4) for _ in range(4)]
-        is_session_key, flags = self.number(1) != 0, self.number(4)
-        addresses, authorization_data = self.listed(), self.listed()
-        ticket, second = self.data(), self.data()
-        return Entry(client, server, key, times[0], times[1], times[2], times[3], flags, ticket, is_session_key, addresses, authorization_data, second)
+    def ticket(self, told: Any) -> bytes:
+        """The octets in the place of a ticket; of a Ticket the place of what its SEQUENCE holds is told."""
+        return self.octets[element_place(element_place(told[""])) if isinstance(told, dict) else told]
+
+    def entry(self, told: Dict[str, Any]) -> Entry:
+        key = EncryptionKey(self.number(told["key"]["keytype"]), Secret(self.octets[told["key"]["keyvalue"]]))
+        numbers = [self.number(told[name]) for name in ("authtime", "starttime", "endtime", "renew-till", "ticket-flags")]
+        return Entry(
+            self.name(told["client"]),
+            self.name(told["server"]),
+            key,
+            *numbers,
+            self.ticket(told["ticket"]),
+            self.number(told["is-skey"]) != 0,
+            self.listed(told["addresses"], "addr-type", "address"),
+            self.listed(told["authdata"], "ad-type", "ad-data"),
+            self.ticket(told["second-ticket"]),
+        )
 
 
 def read_octets(octets: bytes) -> Cache:
-    """The cache that a file's octets are. ValueError: they are none of version 4."""
+    """The cache that a file's octets are, as the library reads them. ValueError: they are none of version 4."""
     if octets[:2] != _VERSION:
         raise ValueError("no credential cache of version 4")
-    reader, offset = _Reader(octets, 2), None
-    header = _Reader(reader.take(reader.number(2)), 0)
-    while header.at < len(header.octets):
-        tag, content = header.number(2), header.take(header.number(2))
+    try:
+        told = nested(page_items(octets, "ccache"), lambda item: item.place, lambda item: {"": item.place})
+    except Refused as refused:
+        if refused.status == Status.MEMORY:
+            raise
+        raise ValueError("a credential cache that ends too early") from None
+    reader, offset = _Reader(octets), None
+    for tag, content in reader.listed(told["header"], "tag", "octets"):
         if tag == _OFFSET_TAG and len(content) == 8:
             offset = int.from_bytes(content[:4], "big", signed=True) or None
-    client = reader.name()
-    entries: List[Entry] = []
-    while reader.at < len(octets):
-        entries.append(reader.entry())
-    return Cache(client, offset, tuple(entries))
+    return Cache(reader.name(told["principal"]), offset, tuple(map(reader.entry, told["credentials"])))
 
 
 def read(path: Union[str, "os.PathLike[str]"]) -> Cache:

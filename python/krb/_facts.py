@@ -1,12 +1,12 @@
 """What a message says in a line: its kind, who asks for what, the error by name, and what keys open in it."""
 
-import struct
 from collections import OrderedDict
 from typing import Any, Dict, Iterable, Iterator, List, NamedTuple, Optional, Tuple
 
 from krb import frames, spnego
 from krb._context import unparsed
 from krb._items import Registry, Secret, _identifier, first_error, name_of, type_of
+from krb._keytab import VERSION, entries_of, entry_of
 from krb._library import Refused, Status
 from krb._parts import decode
 
@@ -61,16 +61,14 @@ class Keys:
     """The keys of keytabs, and those that stood in what was opened, the newest of which are tried on what follows."""
 
     def __init__(self, keytabs: Iterable[bytes] = ()) -> None:
-        self.given = b"\5\2"
-        for each in keytabs:
-            self.given += _entries(each)
+        self.given = VERSION + b"".join(map(entries_of, keytabs))
         self._found: "OrderedDict[Tuple[int, bytes], str]" = OrderedDict()
         self._keytab: Optional[bytes] = None
         self.left_out = 0
 
     @property
     def is_empty(self) -> bool:
-        return len(self.given) == 2 and not self._found
+        return self.given == VERSION and not self._found
 
     def keytab(self) -> bytes:
         """A keytab of all of them: one that was found is of a principal that says where."""
@@ -79,9 +77,7 @@ class Keys:
         found = b""
         for (etype, key), where in reversed(self._found.items()):
             name, place = where.split("@")
-            entry = b"".join(struct.pack(">H", len(each)) + each for each in (place.encode(), name.encode()))
-            entry = struct.pack(">H", 1) + entry + struct.pack(">IIBHH", 0, 0, 1, etype, len(key)) + key
-            found += struct.pack(">i", len(entry)) + entry
+            found += entry_of(place.encode(), name.encode(), etype, key)
         self._keytab = self.given + found
         return self._keytab
 
@@ -94,19 +90,6 @@ class Keys:
         if len(self._found) > MOST_KEYS:
             self._found.popitem(last=False)
             self.left_out += 1
-
-
-def _entries(keytab: bytes) -> bytes:
-    """The entries of a keytab of version 2, without holes. What the entries hold is the library's to say."""
-    entries, at = b"", 2
-    while len(keytab) - at >= 4:
-        (size,) = struct.unpack_from(">i", keytab, at)
-        if size == 0:
-            break
-        if size > 0:
-            entries += keytab[at : at + 4 + size]
-        at += 4 + abs(size)
-    return entries
 
 
 def _dicts(tree: Any, name: str = "") -> Iterator[Tuple[str, Dict[str, Any]]]:

@@ -216,6 +216,17 @@ def _item(record: _Record) -> Item:
     return Item(form, kind, _name(record.name), registry, record.depth, record.tag, record.offset, record.size, Role(record.role))
 
 
+def header_size(size: int) -> int:
+    """How many octets an element has before a content of so many, with a tag of one octet (X.690, 8.1.3;
+    krb_header_size of krb.h)."""
+    return 2 if size < 128 else 2 + (size.bit_length() + 7) // 8
+
+
+def element_place(place: slice) -> slice:
+    """Where the element stands whose content this is."""
+    return slice(place.start - header_size(place.stop - place.start), place.stop)
+
+
 _RECORD = struct.Struct("@NNIIIiIIII")  # offset, size, form, kind, name, registry, depth, tag, role, reserved
 _FRONT = struct.Struct("@NNIIIi16x")  # of these the first six
 assert _RECORD.size == _FRONT.size == ctypes.sizeof(_Record)

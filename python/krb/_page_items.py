@@ -5,7 +5,7 @@ import datetime
 import enum
 import re
 import struct
-from typing import Any, Iterator, List, NamedTuple, Optional, Tuple
+from typing import Any, Callable, Dict, Iterable, Iterator, List, NamedTuple, Optional, Tuple
 
 from krb._items import Registry, Role, Secret
 from krb._library import Octets, Refused, Status, _library, plain
@@ -160,18 +160,17 @@ def _value(item: PageItem, hidden: str) -> Any:
     return _word(value, hidden) if form == PageForm.WORD else value.decode("ascii")
 
 
-def tree(octets: bytes, kind: Optional[str], keytab: bytes, show_keys: bool, hidden: str) -> Any:
-    """The tree of octets of a kind, of None as the one that they begin as, with what the keys of the keytab open in them."""
+def nested(items: Iterable[PageItem], value_of: Callable[[PageItem], Any], struct_of: Callable[[PageItem], Dict[str, Any]] = lambda item: {}) -> Any:
+    """What a page tells: of a struct the dict that `struct_of` begins, by the names of its fields; of a list
+    a list; of any other item its value."""
     around: Any = {}
     whole, outer = around, []
-    for item in _listed(octets, kind, keytab, show_keys):
+    for item in items:
         if item.form in (PageForm.STRUCT_END, PageForm.LIST_END):
             around = outer.pop()
             continue
         begins = item.form in (PageForm.STRUCT, PageForm.LIST)
-        value: Any = ({} if item.form == PageForm.STRUCT else []) if begins else _value(item, hidden)
-        if item.name == "opened-by" and isinstance(value, str):
-            value = opener(value)
+        value: Any = (struct_of(item) if item.form == PageForm.STRUCT else []) if begins else value_of(item)
         if item.is_item:
             around.append(value)
         else:
@@ -181,3 +180,13 @@ def tree(octets: bytes, kind: Optional[str], keytab: bytes, show_keys: bool, hid
             around = value
     (told,) = whole.values()
     return told
+
+
+def tree(octets: bytes, kind: Optional[str], keytab: bytes, show_keys: bool, hidden: str) -> Any:
+    """The tree of octets of a kind, of None as the one that they begin as, with what the keys of the keytab open in them."""
+
+    def value_of(item: PageItem) -> Any:
+        value = _value(item, hidden)
+        return opener(value) if item.name == "opened-by" and isinstance(value, str) else value
+
+    return nested(_listed(octets, kind, keytab, show_keys), value_of)

@@ -6,16 +6,15 @@ Nothing is decoded here, and no printed text is taken apart. A line has the plac
 - Of a buffer of a PAC its item has the place of the entry; the line has that of the octets which the entry's cbBufferSize and Offset name.
 - Of a token in a frame its item has the place of what the frame holds, and of an element of any type, which is shown whole, that of its content, or none where
   it stands in a token or in a type of PKINIT; their lines have the tag and the length before it too.
-- The places of a tree of tags stand in the names of its items (`_TREE_PLACE`).
-- What a key of the caller's is called has the end of a name in a keytab, in the text and the JSON too (`_OWN_KEY`)."""
+- The places of a tree of tags stand in the names of its items (`_TREE_PLACE`)."""
 
 import base64
 import re
-import struct
 from typing import Any, Dict, Iterable, List, NamedTuple, Optional, Set, Tuple
 
 from krb import crypto, spnego
-from krb._items import Registry, Role, _all_names, _RECORD, first_error, name_of, type_of
+from krb._items import Registry, Role, _all_names, _RECORD, element_place, first_error, header_size, name_of, type_of
+from krb._keytab import VERSION, entries_of, entry_of
 from krb._library import TEXTS, Refused, Status
 from krb._page_items import FORMATS, PageForm, PageItem, page_items
 from krb._parts import _decoded, _ETYPES
@@ -39,9 +38,7 @@ MOST_LINES = 20000  # of a tree; the text and the JSON are whole
 MOST_KEYS = 80  # that are made of a password
 _CLEAR = b"\xa0\3\2\1\0"  # etype [0] INTEGER of 0 (RFC 4120, 5.2.9): what follows may be in the clear
 _TREE_PLACE = re.compile(r"@(\d+)\+(\d+)$")
-# What a key of the caller's is called: the principal of an entry without a realm.
-_OWN_KEY = re.compile(r'((?:opened-by|-key)"?: ?"(?:key \d+|the password, salt .*?))@ kvno 1"')
-_OWN_NAME = re.compile(r"(key \d+|the password, salt .*)@ kvno 1", re.DOTALL)
+_GIVEN = b"given"  # the realm of the keys that the caller gives: what opens is called `key 1@given kvno 1`
 _BEGINS = (PageForm.STRUCT, PageForm.LIST)
 _ENDS = (PageForm.STRUCT_END, PageForm.LIST_END)
 # What stands in a text for an octet that does not stand there itself.
@@ -97,18 +94,11 @@ class Page(NamedTuple):
     untold: List[int]  # the sources of which no line has the whole
 
 
-def _own_name(name: str) -> str:
-    """The name of a key, of the caller's without a version."""
-    found = _OWN_NAME.fullmatch(name)
-    return found.group(1) if found else name
-
-
 def _written(item: PageItem) -> str:
     """The value of an item, as `krb.show` writes it."""
     value = item.value
     if item.form == PageForm.TEXT:
-        text = value.decode("latin-1")
-        return '"%s"' % (_own_name(text) if item.name.endswith(("opened-by", "-key")) else text).translate(_ESCAPES)
+        return '"%s"' % value.decode("latin-1").translate(_ESCAPES)
     if item.form in (PageForm.OCTETS, PageForm.SECRET, PageForm.CIPHER):
         return "%d octets %s" % (len(value), value.hex()) if value else "0 octets"
     return " ".join([value.decode("ascii"), *item.names])
@@ -117,11 +107,6 @@ def _written(item: PageItem) -> str:
 def _printable(text: str) -> str:
     """A text as printable ASCII."""
     return text.encode("unicode_escape").decode("ascii")
-
-
-def _header_size(size: int) -> int:
-    """How many octets an element has before a content of so many (X.690, 8.1.3)."""
-    return 2 if size < 128 else 2 + (size.bit_length() + 7) // 8
 
 
 class _Tree:
@@ -182,7 +167,7 @@ class _Tree:
             around.cipher = line
         elif line.name == "thisMech" and around.place is not None and not around.lines:  # a token in its frame (RFC 2743, 3.1)
             source, offset, size = around.place
-            around.place = Place(source, offset - _header_size(size), size + _header_size(size))
+            around.place = Place(source, offset - header_size(size), size + header_size(size))
         elif line.name == "buffers":  # a PAC in another order than its own
             line.place = around.place
         elif line.name == "Offset" and around.name != "buffers":
@@ -234,11 +219,9 @@ class _Tree:
             return Place(0, 0, len(self.sources[0].octets)), self.kind
         if line.item.form != PageForm.STRUCT or line.item.place is None or line.source is None:
             return None
-        offset, end = line.item.place.start, line.item.place.stop
-        for _ in range(2):
-            offset -= _header_size(end - offset)
-        told = type_of(self.sources[line.source].octets[offset : offset + 1]) if offset >= 0 else None
-        return None if told is None else (Place(line.source, offset, end - offset), told)
+        whole = element_place(element_place(line.item.place))
+        told = type_of(self.sources[line.source].octets[whole.start : whole.start + 1]) if whole.start >= 0 else None
+        return None if told is None else (Place(line.source, whole.start, whole.stop - whole.start), told)
 
     def _open(self, line: Line) -> None:
         """Makes sources of what the keys open in the element of a struct."""
@@ -257,7 +240,7 @@ class _Tree:
             if part.count and cipher not in self._opened:
                 name = _all_names()[_RECORD.unpack_from(decoded.records, part.first * _RECORD.size)[4]]
                 opener = decoded.opener_of(part)
-                title = "%s, opened by %s" % (name, _printable(_own_name(opener))) if opener else "%s, in the clear" % name
+                title = "%s, opened by %s" % (name, _printable(opener)) if opener else "%s, in the clear" % name
                 self._opened[cipher] = name, len(self.sources)
                 self.sources.append(Source(title, decoded.octets_of(part)))
 
@@ -288,7 +271,7 @@ def _place_in_tree(line: Line) -> None:
     found = _TREE_PLACE.search(line.name)
     if found:
         size = int(found.group(2))
-        whole = size if line.name.startswith(("TruncatedData", "InvalidData", "UnsupportedData")) else size + _header_size(size)
+        whole = size if line.name.startswith(("TruncatedData", "InvalidData", "UnsupportedData")) else size + header_size(size)
         line.place = Place(0, int(found.group(1)), whole)
 
 
@@ -343,8 +326,7 @@ def page_of(octets: bytes, kind: Optional[str], keytab: bytes, show_keys: bool) 
         error = ("HIDDEN", "a tree has all octets, those of keys too: ask for keys and passwords to see it", None)
         return Page([], sources, "", "", error, notes, True, []), []
     try:
-        text = _OWN_KEY.sub(r'\1"', show(octets, known, keytab, False, show_keys))
-        as_json = _OWN_KEY.sub(r'\1"', show(octets, known, keytab, True, show_keys))
+        text, as_json = (show(octets, known, keytab, is_json, show_keys) for is_json in (False, True))
         tree = _Tree(octets, known, keytab, show_keys)
     except Refused as refused:
         if refused.status == Status.MEMORY:
@@ -387,27 +369,14 @@ def masks_of(page: Page, hidden: bool) -> List[List[Tuple[int, int]]]:
 
 
 def _entries(keytab: bytes) -> bytes:
-    """The entries of a keytab of version 2, up to its end (MIT Kerberos, "Keytab file format")."""
+    """The entries of a keytab of version 2."""
     try:
         show(keytab, "keytab")
     except Refused:
         raise BadInput("a file of keys is no keytab") from None
-    if keytab[:2] != b"\5\2":
+    if keytab[:2] != VERSION:
         raise BadInput("a keytab of another version than 2")
-    at, entries = 2, b""
-    while at + 4 <= len(keytab):
-        (size,) = struct.unpack_from(">i", keytab, at)
-        if size == 0:
-            break
-        entries += keytab[at : at + 4 + abs(size)]
-        at += 4 + abs(size)
-    return entries
-
-
-def _entry(name: bytes, etype: int, key: bytes) -> bytes:
-    """An entry of a principal of one component and an empty realm."""
-    entry = struct.pack(">HHH", 1, 0, len(name)) + name + struct.pack(">IIBHH", 0, 0, 1, etype, len(key)) + key
-    return struct.pack(">i", len(entry)) + entry
+    return entries_of(keytab)
 
 
 def _key(written: str, number: int) -> bytes:
@@ -421,13 +390,13 @@ def _key(written: str, number: int) -> bytes:
     etype = etypes.get(etype_text)
     if key is None or etype is None or len(key) != crypto.key_size(etype):
         raise BadInput("key %d is not ETYPE:HEX, with ETYPE 16 to 20 or the name of such a type, and as many octets as its keys have" % number)
-    return _entry(b"key %d" % number, etype, key)
+    return entry_of(_GIVEN, b"key %d" % number, etype, key)
 
 
 def keys_of(keytabs: Iterable[bytes], keys: str) -> bytes:
     """One keytab of all keytabs and keys. The keys stand between blanks, each ETYPE:HEX. Refused: BadInput."""
-    entries = b"".join(_entries(keytab) for keytab in keytabs if keytab) + b"".join(_key(each, number + 1) for number, each in enumerate(keys.split()))
-    return b"\5\2" + entries if entries else b""
+    found = b"".join(_entries(keytab) for keytab in keytabs if keytab) + b"".join(_key(each, number + 1) for number, each in enumerate(keys.split()))
+    return VERSION + found if found else b""
 
 
 def etypes_of(page: Page) -> List[int]:
@@ -440,14 +409,14 @@ def etypes_of(page: Page) -> List[int]:
 def with_password(keytab: bytes, password: str, salts: Iterable[bytes], etypes: Iterable[int]) -> Tuple[bytes, int]:
     """The keytab with the keys of a password under these salts, and how many there would be; MOST_KEYS are made at most."""
     wanted = [(salt, etype) for salt in salts if len(salt) <= 1024 for etype in etypes]
-    entries = b""
+    made = b""
     for salt, etype in wanted[:MOST_KEYS]:
         try:
             key = crypto.string_to_key(etype, password.encode("utf-8", "surrogatepass"), salt)
         except Refused:
             continue
-        entries += _entry(b"the password, salt " + salt, etype, key)
-    return ((keytab or b"\5\2") + entries if entries else keytab), len(wanted)
+        made += entry_of(_GIVEN, b"the password, salt " + salt, etype, key)
+    return ((keytab or VERSION) + made if made else keytab), len(wanted)
 
 
 def as_answer(page: Page, show_keys: bool, form: str) -> Dict[str, Any]:

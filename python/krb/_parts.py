@@ -7,6 +7,7 @@ from typing import Any, Dict, Iterable, Iterator, List, NamedTuple, Optional, Tu
 
 from krb import _items
 from krb._items import Form, Item, Leaf, Node, Registry, Secret, _all_names, _flags, _FRONT, _item, _named, _OCTETS, _Record, _RECORD, _VALUES
+from krb._keytab import VERSION, entry_of
 from krb._library import Octets, Refused, Status, _library, plain
 from krb._page_items import FORMATS, opener, tree
 
@@ -106,8 +107,7 @@ def _keytab_of(keytab: Optional[Octets], keys: Iterable[Tuple[int, Octets]]) -> 
         octets, name = plain(key), b"keys[%d]" % number
         if len(octets) > 0xFFFF:
             raise Refused(Status.KEY_SIZE)
-        entry = struct.pack(">HHH", 1, 0, len(name)) + name + struct.pack(">IIBHH", 0, 0, 1, etype, len(octets)) + octets
-        made = (made or b"\5\2") + struct.pack(">i", len(entry)) + entry
+        made = (made or VERSION) + entry_of(b"", name, etype, octets)
     return made
 
 

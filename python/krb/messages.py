@@ -180,12 +180,6 @@ def _path(message: int, field: int, index: int, octets: Octets) -> Tuple[str, st
     return name, path % (index if 0 <= index <= _MOST else _MOST) if "%" in path else path
 
 
-def _around(place: slice) -> slice:
-    """The element in one octet of tag whose content this is (X.690, 8.1.3)."""
-    size = place.stop - place.start
-    return slice(place.start - 2 - (0 if size < 128 else (size.bit_length() + 7) // 8), place.stop)
-
-
 def field_place(message: int, field: int, octets: Octets, index: int = 0) -> slice:
     """Where the field stands in the octets, as a slice of them.
 
@@ -193,7 +187,7 @@ def field_place(message: int, field: int, octets: Octets, index: int = 0) -> sli
     item of this index; MEMORY."""
     place = _items.find_item(octets, *_path(message, field, index, octets)).place
     # a ticket is a SEQUENCE in its [APPLICATION 1]
-    return _around(_around(place)) if field == Field.TICKET else place
+    return _items.element_place(_items.element_place(place)) if field == Field.TICKET else place
 
 
 def field_octets(message: int, field: int, octets: Octets, index: int = 0) -> bytes:

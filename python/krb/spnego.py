@@ -5,7 +5,7 @@ A mechanism is the content of its OBJECT IDENTIFIER, as `KERBEROS` and `SPNEGO` 
 import enum
 from typing import Dict, Iterable, List, NamedTuple, Optional, Tuple, Union
 
-from krb._items import Form, Item, items
+from krb._items import Form, Item, header_size, items
 from krb._library import IN, SIZE_OUT, U32, Call, Octets, Refused, Status, plain
 
 __all__ = ["KERBEROS", "SPNEGO", "Token", "token", "make_token", "NegState", "NegTokenInit", "NegTokenResp"]
@@ -127,12 +127,10 @@ _make_init = Call("krb_make_neg_token_init", IN, IN, IN, has_room=True)
 
 
 def _identifier(mechanism: Octets) -> bytes:
-    """The OBJECT IDENTIFIER of this content (X.690, 8.1.3 and 10.1)."""
-    content = plain(mechanism)
-    size = len(content)
-    digits = size.to_bytes((size.bit_length() + 7) // 8, "big")
-    length = bytes([size]) if size < 128 else bytes([128 + len(digits)]) + digits
-    return b"\x06" + length + content
+    """The OBJECT IDENTIFIER of this content, with which a token without an inner one ends."""
+    octets = make_token(mechanism, b"")
+    offset, size, _, _ = _token.told(octets)
+    return octets[offset - header_size(size) :]
 
 
 def make_neg_token_init(mechanisms: Iterable[Octets], mech_token: Octets = b"", mech_list_mic: Octets = b"") -> bytes:

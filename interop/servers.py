@@ -1,9 +1,11 @@
-"""Servers between a client and a KDC on 127.0.0.1: a relay that changes replies, and others that are of no use or of little."""
+"""Servers on 127.0.0.1: between a client and a KDC relays that keep or change what goes by, and others that are of no use or of little; and a name server."""
 
 import socket
 import struct
 import threading
 import time
+
+from octets import framed
 
 AS_REP, TGS_REP = 0x6B, 0x6D
 
@@ -18,10 +20,6 @@ def read(link, size):
     return came
 
 
-def framed(octets):
-    return struct.pack(">I", len(octets)) + octets
-
-
 def asked(port, request):
     """What the KDC at this port replies over TCP."""
     with socket.create_connection(("127.0.0.1", port), 20) as link:
@@ -30,7 +28,9 @@ def asked(port, request):
 
 
 class Server:
-    """Serves each TCP connection in a thread by `serve`."""
+    """Serves each TCP connection in a thread by `serve`; `begins` is called before that is there."""
+
+    seconds = 20  # that a connection may be silent
 
     def __init__(self, port=0):
         self._listener = socket.create_server(("127.0.0.1", port))
@@ -44,15 +44,19 @@ class Server:
                 link, _ = self._listener.accept()
             except OSError:
                 return
+            self.begins()
             threading.Thread(target=self._served, args=(link,), daemon=True).start()
 
     def _served(self, link):
         with link:
-            link.settimeout(20)
+            link.settimeout(self.seconds)
             try:
                 self.serve(link)
             except OSError:
                 pass
+
+    def begins(self):
+        pass
 
     def serve(self, link):
         raise NotImplementedError
@@ -77,6 +81,69 @@ class Relay(Server):
         if self.change is not None and (self.any or reply[:1] in (bytes([AS_REP]), bytes([TGS_REP]))):
             reply = self.change(request, reply)
         link.sendall(framed(reply))
+
+
+class Keeping(Server):
+    """Passes all octets on both ways, and keeps those that come for the server. Where `answer` is set they are not sent on: it is called with the connection to
+    answer in the server's place."""
+
+    seconds = 60
+
+    def __init__(self, to):
+        self.to, self.answer, self._kept, self._lock, self._open = to, None, [], threading.Lock(), 0
+        super().__init__()
+
+    def begins(self):
+        with self._lock:
+            self._open += 1
+
+    def serve(self, link):
+        kept = bytearray()
+        with self._lock:
+            self._kept.append(kept)
+        try:
+            if self.answer is not None:
+                kept += link.recv(1 << 20)
+                self.answer(link)
+                return
+            with socket.create_connection(("127.0.0.1", self.to), self.seconds) as server:
+                back = threading.Thread(target=self._back, args=(server, link), daemon=True)
+                back.start()
+                while True:
+                    part = link.recv(1 << 20)
+                    kept += part
+                    if not part:
+                        break
+                    server.sendall(part)
+                server.shutdown(socket.SHUT_WR)
+                back.join()
+        finally:
+            link.close()
+            with self._lock:
+                self._open -= 1
+
+    @staticmethod
+    def _back(server, link):
+        try:
+            while True:
+                part = server.recv(1 << 20)
+                if not part:
+                    break
+                link.sendall(part)
+            link.shutdown(socket.SHUT_RDWR)
+        except OSError:
+            pass
+
+    def take(self):
+        """What came since the last time: the octets of each connection, once all have ended."""
+        end = time.monotonic() + 60
+        while time.monotonic() < end:
+            with self._lock:
+                if not self._open:
+                    kept, self._kept = self._kept, []
+                    return [bytes(each) for each in kept]
+            time.sleep(0.001)
+        raise TimeoutError("a connection of the relay does not end")
 
 
 class Saying(Server):
@@ -120,6 +187,39 @@ class Datagrams:
 
     def stop(self):
         self._link.close()
+
+
+def name_in(query):
+    """The name in the question of a query (RFC 1035, 4.1.2), and where it ends."""
+    labels, at = [], 12
+    while query[at]:
+        labels.append(query[at + 1 : at + 1 + query[at]])
+        at += 1 + query[at]
+    return b".".join(labels).decode("ascii", "backslashreplace"), at + 1
+
+
+class NameServer(Datagrams):
+    """Knows no name, and keeps what it was asked for."""
+
+    def __init__(self):
+        self._asked, self._lock = [], threading.Lock()
+        super().__init__(self._none)
+
+    def _none(self, _, query):
+        try:
+            name, end = name_in(query)
+        except IndexError:
+            name, end = "no query: %r" % query, len(query)
+        with self._lock:
+            self._asked.append(name)
+        # a response of a recursive server, with the code 3 (RFC 1035, 4.1.1)
+        return [query[:2] + b"\x81\x83\0\1" + bytes(6) + query[12 : end + 4]]
+
+    def take(self):
+        """The names that were asked for since the last time."""
+        with self._lock:
+            asked, self._asked = self._asked, []
+            return asked
 
 
 def both(to, answer):

@@ -1,20 +1,17 @@
-"""Heimdal's KDC: the same first and further tickets, where Debian's packages can be had. They are unpacked into the realm's folder, since Debian keeps them apart from MIT's."""
+"""Heimdal's KDC: the same first and further tickets, where Debian's packages can be had."""
 
-import glob
-import os
 import time
 
 import krb
 from checks import expect, say
 from exchanges import listed, refusal
+from heimdal import KDC, programs
 from krb._exchange import Exchange, Follows, Limits, Wanted
 from krb._kdc import Kdcs
 from krb._names import parsed, ticket_granting
 from realm import PASSWORD, SUITES, free_port
-from script import HEIMDAL, unpacked as packages_unpacked
 
 REALM = "HEIM.TEST"
-PACKAGES = ["heimdal-kdc", "libkdc2-heimdal", *HEIMDAL]
 CONFIG = """[libdefaults]
  default_realm = {realm}
  dns_lookup_kdc = false
@@ -40,20 +37,12 @@ CONFIG = """[libdefaults]
 RULE = krb.ClientRule
 
 
-def unpacked(realm):
-    """The folder of the packages; None where they cannot be had."""
-    root = realm.path("heimdal-packages")
-    return root if packages_unpacked(PACKAGES, root) and os.path.exists(os.path.join(root, "usr", "lib", "heimdal-servers", "kdc")) else None
-
-
 class Heimdal:
     """A realm of Heimdal: carol has keys of all suites, c17 to c20 of one each, dave's time is not asked for under his key; `keytab` has the service's keys, `users` those of carol."""
 
-    def __init__(self, realm, root):
-        self.realm, self.port = realm, free_port()
-        folders = sorted({os.path.dirname(each) for each in glob.glob(os.path.join(root, "usr", "lib", "*", "**", "lib*.so.*"), recursive=True)})
-        self.environment = dict(realm.environment, LD_LIBRARY_PATH=":".join(folders))
-        self.program = lambda *names: os.path.join(root, "usr", *names)
+    def __init__(self, realm, unpacked):
+        self.realm, self.port, self.program = realm, free_port(), unpacked.path
+        self.environment = dict(realm.environment, LD_LIBRARY_PATH=unpacked.libraries)
         self.keytab, self.users = realm.path("heimdal-keytab"), realm.path("heimdal-users")
         self.kdc = "tcp/127.0.0.1:%d" % self.port
         self.names = {17: "c17", 18: "c18", 19: "c19", 20: "c20"}
@@ -66,10 +55,10 @@ class Heimdal:
         self.environment["KRB5_CONFIG"] = self.realm.write("heimdal.conf", text)
 
     def admin(self, *words):
-        self.realm.run(self.program("bin", "kadmin.heimdal"), "-l", "-c", self.environment["KRB5_CONFIG"], *words, environment=self.environment)
+        self.realm.run(self.program("kadmin.heimdal"), "-l", "-c", self.environment["KRB5_CONFIG"], *words, environment=self.environment)
 
     def begin(self):
-        self.realm.run(self.program("sbin", "kstash"), "--random-key", "--key-file=" + self.realm.path("heimdal-key"), environment=self.environment)
+        self.realm.run(self.program("kstash"), "--random-key", "--key-file=" + self.realm.path("heimdal-key"), environment=self.environment)
         self.admin("init", "--realm-max-ticket-life=1day", "--realm-max-renewable-life=2day", REALM)
         password = "--password=" + PASSWORD
         self.admin("add", password, "--use-defaults", "--attributes=requires-pre-auth", "carol")
@@ -81,8 +70,18 @@ class Heimdal:
             self.configure([number])
             self.admin("add", password, "--use-defaults", "--attributes=requires-pre-auth", name)
         self.configure(SUITES)
-        command = [self.program("lib", "heimdal-servers", "kdc"), "--config-file=" + self.environment["KRB5_CONFIG"], "--ports=%d" % self.port, "--addresses=127.0.0.1"]
+        command = [self.program("kdc"), "--config-file=" + self.environment["KRB5_CONFIG"], "--ports=%d" % self.port, "--addresses=127.0.0.1"]
         self.realm.start(command, self.environment, self.port)
+
+
+def begun(realm):
+    """A realm of Heimdal whose KDC runs; None where its packages cannot be had."""
+    unpacked = programs(realm.path("heimdal-packages"), KDC)
+    if unpacked is None:
+        return None
+    heimdal = Heimdal(realm, unpacked)
+    heimdal.begin()
+    return heimdal
 
 
 def try_tickets(realm, heimdal):
@@ -177,12 +176,9 @@ class Held:
 
 
 def try_heimdal(realm):
-    root = unpacked(realm)
-    if root is None:
-        say("left out: Heimdal, whose packages cannot be had")
+    heimdal = begun(realm)
+    if heimdal is None:
         return
-    heimdal = Heimdal(realm, root)
-    heimdal.begin()
     try_tickets(realm, heimdal)
     try_options(realm, heimdal)
     try_renamed(realm, heimdal)
