@@ -1,7 +1,3 @@
-pub mod EngineNumbers
-pub mod Taking
-pub mod Answering
-pub mod Engines
 pub mod Making
 pub mod Negotiation
 pub mod Pac

@@ -5,3 +5,6 @@ pub mod Taking
 pub mod Offering
 pub mod Hearing
 pub mod KerberosMeaning
+pub mod Told
+pub mod Asking
+pub mod Answering
