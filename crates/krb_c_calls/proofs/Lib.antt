@@ -18,3 +18,4 @@ mod KeptAgain
 mod KeptSums
 mod Lengths
 mod Refused
+pub mod KindRows
