@@ -233,7 +233,7 @@ krb_status krb_verify_checksum_kept(const krb_checksum_key *kept, const uint8_t 
 krb_status krb_n_fold(const uint8_t *input, size_t input_size, uint8_t *out, size_t out_size);
 
 /* Whether the octets are the one DER encoding of such a message, by a number KRB_MESSAGE_.., with nothing behind it: KRB_DONE.
-   KRB_NUMBER; else, of the first fault: KRB_INVALID, KRB_TRUNCATED, KRB_UNSUPPORTED; KRB_MEMORY. */
+   KRB_NUMBER; else, of the first fault: KRB_INVALID, KRB_TRUNCATED, KRB_UNSUPPORTED. It takes no memory. */
 krb_status krb_check(int32_t number, const uint8_t *octets, size_t octets_size);
 
 /* As krb_encrypt, of the one DER encoding of such a part: what krb_check with its number refuses is refused so, before all else.

@@ -13,3 +13,4 @@ mod KeptAgain
 mod KeptSums
 mod Lengths
 mod Refused
+pub mod KindRows

@@ -24,6 +24,7 @@ pub mod ProxyStatuses
 pub mod Replies
 pub mod Posted
 pub mod Requests
+pub mod RowReadings
 pub mod Shown
 pub mod Sizes
 pub mod Statuses
