@@ -26,23 +26,6 @@ use crate::crypto::texts::texts_of;
 use crate::rows::{Columns, RowError};
 use std::alloc::Global;
 
-/// What a call of a suite returns, by its free calls or those of its type.
-fn try_suites(alloc: Global, row: &Row) -> Answer {
-    let found = match row.suite {
-        "des3" => try_des(alloc, row),
-        "aes128" | "aes256" => try_aes(alloc, row),
-        _ => try_aes_sha2(alloc, row),
-    };
-    if found.is_some() {
-        return found;
-    }
-    let found = try_checksum(alloc, row);
-    if found.is_some() {
-        return found;
-    }
-    try_suite(alloc, row)
-}
-
 /// What the call of a row returns: each of these has a name in one of them alone.
 fn try_row(alloc: Global, row: &Row) -> Answer {
     if row.call == "text" {
@@ -64,7 +47,19 @@ fn try_row(alloc: Global, row: &Row) -> Answer {
     if found.is_some() {
         return found;
     }
-    try_suites(alloc, row)
+    let found = match row.suite {
+        "des3" => try_des(alloc, row),
+        "aes128" | "aes256" => try_aes(alloc, row),
+        _ => try_aes_sha2(alloc, row),
+    };
+    if found.is_some() {
+        return found;
+    }
+    let found = try_checksum(alloc, row);
+    if found.is_some() {
+        return found;
+    }
+    try_suite(alloc, row)
 }
 
 /// What is printed of a row.

@@ -83,16 +83,14 @@ fn written_text<E: Debug + Drop>(
     }
 }
 
-/// What is printed of a keytab.
-fn keytab_text(alloc: Global, octets: &[u8]) -> Result<String, AllocError> {
-    match KeytabView::new(octets) {
-        Ok(keytab) => written_text(alloc, written_keytab(alloc, &keytab)),
-        Err(error) => format!(in alloc; "{error:?}"),
+/// What is printed of a keytab or a credential cache.
+fn text_of(alloc: Global, kind: &str, octets: &[u8]) -> Result<String, AllocError> {
+    if kind == "keytab" {
+        return match KeytabView::new(octets) {
+            Ok(keytab) => written_text(alloc, written_keytab(alloc, &keytab)),
+            Err(error) => format!(in alloc; "{error:?}"),
+        };
     }
-}
-
-/// What is printed of a credential cache.
-fn ccache_text(alloc: Global, octets: &[u8]) -> Result<String, AllocError> {
     match CcacheView::new(octets) {
         Ok(cache) => written_text(alloc, written_ccache(alloc, &cache)),
         Err(error) => format!(in alloc; "{error:?}"),
@@ -103,10 +101,6 @@ fn ccache_text(alloc: Global, octets: &[u8]) -> Result<String, AllocError> {
 pub(crate) fn answer(alloc: Global, mut columns: Columns<'_>) -> Result<String, RowError> {
     let (origin, kind) = (columns.text()?, columns.text()?);
     let octets = columns.octets(alloc)?;
-    let text = if kind == "keytab" {
-        keytab_text(alloc, &octets)
-    } else {
-        ccache_text(alloc, &octets)
-    }?;
+    let text = text_of(alloc, kind, &octets)?;
     Ok(format!(in alloc; "{origin} {kind}\n{text}\n")?)
 }

@@ -11,39 +11,34 @@ use picky_krb::crypto::des::{DesKey, decrypt_des, encrypt_des};
 use std::alloc::Global;
 
 /// What AES by vector permutes makes of a block; `None` where AES by word tables makes another of it in either direction.
-fn by_aes(row: &Row, size: &AesSize, block: [u8; 16]) -> KerberosCryptoResult<Option<[u8; 16]>> {
+fn by_aes(
+    alloc: Global,
+    row: &Row,
+    size: &AesSize,
+    block: [u8; 16],
+) -> KerberosCryptoResult<Option<Vec<u8>>> {
     let permutes = AesKey::new(&row.key, size)?;
     let tables = AesTableKey::new(&row.key, size)?;
     if !agree(&tables, &permutes, block) {
         return Ok(None);
     }
-    Ok(Some(if row.call == "encrypt_block" {
+    let made = if row.call == "encrypt_block" {
         permutes.encrypt_block(block)
     } else {
         permutes.decrypt_block(block)
-    }))
+    };
+    Ok(Some(copied(alloc, &made)?))
 }
 
 /// What triple DES makes of a block.
-fn by_des(row: &Row, block: [u8; 8]) -> KerberosCryptoResult<Option<[u8; 8]>> {
+fn by_des(alloc: Global, row: &Row, block: [u8; 8]) -> KerberosCryptoResult<Option<Vec<u8>>> {
     let key = DesKey::new(&row.key)?;
-    Ok(Some(if row.call == "encrypt_block" {
+    let made = if row.call == "encrypt_block" {
         key.encrypt_block(block)
     } else {
         key.decrypt_block(block)
-    }))
-}
-
-/// What is printed of a block.
-fn block_text<const SIZE: usize>(
-    alloc: Global,
-    made: KerberosCryptoResult<Option<[u8; SIZE]>>,
-) -> Answer {
-    match made {
-        Ok(Some(block)) => text_of(hex::encode(alloc, &block)),
-        Ok(None) => text_of(String::from_str(alloc, "another by word tables")),
-        Err(rejection) => Some(Err(rejection)),
-    }
+    };
+    Ok(Some(copied(alloc, &made)?))
 }
 
 /// Calls of a block (FIPS 197, FIPS 46-3), or of a mode.

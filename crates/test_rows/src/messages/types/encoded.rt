@@ -79,11 +79,19 @@ fn push_found<T: Der + Debug + PartialEq + Drop>(
         found.decide("cut", is_cut::<T>(row.alloc, row.octets))?;
     }
     if row.trial != Trial::Once {
-        found.decide("longer", is_longer_refused::<T>(row)?)?;
+        let mut longer = Vec::from_slice(row.alloc, row.octets)?;
+        longer.push(0)?;
+        let is_refused = matches!(
+            from_bytes::<T>(row.alloc, &longer),
+            Err(Asn1DerError::InvalidData)
+        );
+        drop(longer);
+        found.decide("longer", is_refused)?;
     }
     push_copied(row, value, found)?;
     if !row.text.is_empty() {
-        found.decide("shown", is_shown(row, value)?)?;
+        let is_shown = format!(in row.alloc; "{value:?}")?.as_str() == row.text;
+        found.decide("shown", is_shown)?;
     }
     Ok(())
 }
@@ -93,26 +101,11 @@ fn is_written<T: Der>(row: &Row<'_>, value: &T) -> Result<bool, Asn1DerError> {
     Ok(to_vec(row.alloc, value)?.as_slice() == row.octets)
 }
 
-/// Whether with one trailing octet they are `InvalidData`.
-fn is_longer_refused<T: Der + Drop>(row: &Row<'_>) -> Result<bool, Asn1DerError> {
-    let mut longer = Vec::from_slice(row.alloc, row.octets)?;
-    longer.push(0)?;
-    Ok(matches!(
-        from_bytes::<T>(row.alloc, &longer),
-        Err(Asn1DerError::InvalidData)
-    ))
-}
-
 /// Whether a vector keeps the octets before those that a call appends.
 fn is_kept<T: Der>(row: &Row<'_>, value: &T) -> Result<bool, Asn1DerError> {
     let mut appended = Vec::from_slice(row.alloc, &OTHERS)?;
     value.write(row.alloc, &mut appended)?;
     Ok(appended.strip_prefix(OTHERS.as_slice()) == Some(row.octets))
-}
-
-/// Whether `{:?}` writes the text.
-fn is_shown<T: Debug>(row: &Row<'_>, value: &T) -> Result<bool, Asn1DerError> {
-    Ok(format!(in row.alloc; "{value:?}")?.as_str() == row.text)
 }
 
 /// Adds what holds of a copy of the value.

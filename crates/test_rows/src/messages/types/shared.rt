@@ -9,7 +9,7 @@ use krb_types::data_types::{
     PrincipalName, Realm, Ticket, TicketInner, TransitedEncoding,
 };
 
-/// Reads the octets as a primitive type, a sequence of these or a list, of this name, and returns the findings. `None` where no type
+/// Reads the octets as a primitive type, a list or a sequence that holds one, or a sequence of primitive types, of this name, and returns the findings. `None` where no type
 /// has the name.
 pub fn try_shared(row: &Row<'_>) -> Attempt {
     Some(match row.name {
@@ -19,6 +19,12 @@ pub fn try_shared(row: &Row<'_>) -> Attempt {
         "KerberosTime" => findings_of::<KerberosTime>(row),
         "Microseconds" => findings_of::<Microseconds>(row),
         "Realm" => findings_of::<Realm>(row),
+        "AuthorizationData" => findings_of::<AuthorizationData>(row),
+        "ChangePasswdData" => findings_of::<ChangePasswdData>(row),
+        "HostAddresses" => findings_of::<HostAddresses>(row),
+        "LastReq" => findings_of::<LastReq>(row),
+        "Ticket" => findings_of::<Ticket>(row),
+        "TicketInner" => findings_of::<TicketInner>(row),
         _ => return try_sequence(row),
     })
 }
@@ -35,19 +41,6 @@ fn try_sequence(row: &Row<'_>) -> Attempt {
         "LastReqInner" => findings_of::<LastReqInner>(row),
         "PrincipalName" => findings_of::<PrincipalName>(row),
         "TransitedEncoding" => findings_of::<TransitedEncoding>(row),
-        _ => return try_list(row),
-    })
-}
-
-/// Reads the octets as a list, or a sequence that holds one, of this name, and returns the findings.
-fn try_list(row: &Row<'_>) -> Attempt {
-    Some(match row.name {
-        "AuthorizationData" => findings_of::<AuthorizationData>(row),
-        "ChangePasswdData" => findings_of::<ChangePasswdData>(row),
-        "HostAddresses" => findings_of::<HostAddresses>(row),
-        "LastReq" => findings_of::<LastReq>(row),
-        "Ticket" => findings_of::<Ticket>(row),
-        "TicketInner" => findings_of::<TicketInner>(row),
         _ => return None,
     })
 }
