@@ -46,13 +46,16 @@ pub fn try_block(alloc: Global, row: &Row) -> Answer {
     if row.call != "encrypt_block" && row.call != "decrypt_block" {
         return try_mode(alloc, row);
     }
-    if row.suite == "des3" {
-        return block_text(alloc, by_des(row, block_of(&row.input)?));
+    let made = if row.suite == "des3" {
+        by_des(alloc, row, block_of(&row.input)?)
+    } else {
+        by_aes(alloc, row, &size_of(row.suite)?, block_of(&row.input)?)
+    };
+    match made {
+        Ok(Some(block)) => answer_of(alloc, Ok(block)),
+        Ok(None) => text_of(String::from_str(alloc, "another by word tables")),
+        Err(rejection) => Some(Err(rejection)),
     }
-    block_text(
-        alloc,
-        by_aes(row, &size_of(row.suite)?, block_of(&row.input)?),
-    )
 }
 
 /// The octets with their last two blocks in each other's place.
