@@ -974,7 +974,7 @@ krb_status krb_negotiation_begin(krb_negotiation *side, const uint8_t *names, si
                                  uint8_t *out, size_t room, size_t *size);
 
 /* What octets of the peer's ask of a mechanism; the side stays as it is. An acceptor's list comes with the offer, and is empty before.
-   KRB_NUMBER: role, stage, rule or mechanism of the side is none of the numbers above, or an initiator has not begun. KRB_INVALID, KRB_TRUNCATED, KRB_UNSUPPORTED as above.
+   KRB_NUMBER: role, stage, rule, mechanism or name of the side is none of the numbers above, or an initiator has not begun. KRB_INVALID, KRB_TRUNCATED, KRB_UNSUPPORTED as above.
    KRB_ROOM, KRB_MEMORY. Then *question is as it was. */
 krb_status krb_negotiation_take(const krb_negotiation *side, const uint8_t *names, size_t names_size, const krb_mechanism *mechanisms, size_t mechanisms_count,
                                 const uint8_t *list, size_t list_size, const uint8_t *octets, size_t octets_size, krb_negotiation_question *question,

@@ -1,6 +1,7 @@
 -- A side of a negotiation (RFC 4178, 3.2) as the numbers that the caller keeps.
-use Rattle.std.specs.Prelude.{◌≡◌, ◌⊎◌, ◌+◌, ◌%◌, ◌^◌, ◌==◌, nat_eq, ℕ, List, [], ◌∷◌, Bool, false, Option, Some, None, Result, Ok, Err, Vec, find, position, if◌then◌else◌}
+use Rattle.std.specs.Prelude.{◌≡◌, ◌⊎◌, ◌+◌, ◌-◌, ◌%◌, ◌^◌, ◌==◌, nat_eq, ℕ, List, [], ◌∷◌, Bool, false, Option, Some, None, Result, Ok, Err, Vec, find, position, slice_get, if◌then◌else◌}
 use Rattle.std.specs.Cmp.Lexicographic.{pointwise}
+use Rattle.std.specs.Option.{option_map}
 use Rattle.std.specs.declared.alloc.Global.{Global}
 use Rattle.krb_c_calls.specs.declared.call_error.CallError.{CallError}
 use Rattle.krb_c_calls.specs.declared.call_error.CallError.TheVariants as calls
@@ -33,24 +34,38 @@ chosen_in mechanisms number = chosen_by (find (λ m. m.place == number) mechanis
 abbrev pub terms_in : NegotiationRecord → Terms
 terms_in side = record { preferred = is_set side.preferred; required = is_set side.required; sent = is_set side.sent }
 
--- A side that waits, with the mechanism of its number and this list. The name by which both sides know it is left to the numbers: no step looks at it.
+-- the name of a mechanism that has this number: 0 its own, k its k-th other one
+abbrev pub other_name : List (Vec ℕ Global) → ℕ → Option (List ℕ)
+other_name others place = option_map (λ other. other.items) (slice_get others place)
+
+abbrev pub told_name : Told → ℕ → Option (List ℕ)
+told_name m number = if number == 0 then Some m.oid.items else other_name m.others.items (number - 1)
+
+-- memory was wanting, or no name has the number
+abbrev pub RefusesName : Option (List ℕ) → CallError → Type 0
+RefusesName name e = (e ≡ calls.Memory) ⊎ ((name ≡ None) × (e ≡ calls.Number))
+
+-- a side that waits, with the mechanism of its number, under the name of its number, and this list
 pub record IsRunningOf (side : NegotiationRecord) (mechanisms : List Told) (list : List ℕ) (r : Running Told) : Type 0 where
   pub mechanism : chosen_in mechanisms side.mechanism ≡ Ok r.mechanism
-  pub name : r.name.items ≡ []
+  pub name : told_name r.mechanism side.name ≡ Some r.name.items
   pub established : r.established ≡ is_set side.established
   pub terms : r.terms ≡ terms_in side
   pub list_is : r.list.items ≡ list
 
 pub record IsCompleteOf (side : NegotiationRecord) (mechanisms : List Told) (list : List ℕ) (c : Complete Told) : Type 0 where
   pub mechanism : chosen_in mechanisms side.mechanism ≡ Ok c.mechanism
-  pub name : c.name.items ≡ []
+  pub name : told_name c.mechanism side.name ≡ Some c.name.items
   pub terms : c.terms ≡ terms_in side
   pub by_mic : c.by_mic ≡ is_set side.by_mic
   pub list_is : c.list.items ≡ list
 
--- memory was wanting, or no mechanism has the number
+-- memory was wanting, no mechanism has the number, or no name of it
 abbrev pub RefusesChosen : NegotiationRecord → List Told → CallError → Type 0
-RefusesChosen side mechanisms e = (e ≡ calls.Memory) ⊎ (chosen_in mechanisms side.mechanism ≡ Err e)
+RefusesChosen side mechanisms e =
+    (e ≡ calls.Memory)
+    ⊎ ((chosen_in mechanisms side.mechanism ≡ Err e)
+    ⊎ ((m : Told) × ((chosen_in mechanisms side.mechanism ≡ Ok m) × ((told_name m side.name ≡ None) × (e ≡ calls.Number)))))
 
 -- the first mechanism is the preferred one
 pub record IsOfferedOf (side : NegotiationRecord) (mechanisms : List Told) (list : List ℕ) (o : Offered Told) : Type 0 where
@@ -138,17 +153,12 @@ abbrev pub name_rank : Told → List ℕ → ℕ
 name_rank m name =
     if pointwise nat_eq m.oid.items name then 0 else rank_of (position (λ other. pointwise nat_eq other.items name) m.others.items)
 
--- once it is told it stays
-abbrev pub name_after : Told → List ℕ → ℕ → ℕ
-name_after m [] kept = kept
-name_after m (arc ∷ arcs) kept = name_rank m (arc ∷ arcs)
-
 abbrev pub running_after : NegotiationRecord → Running Told → NegotiationRecord
 running_after side r =
     record side {
       stage = 1;
       mechanism = r.mechanism.place;
-      name = name_after r.mechanism r.name.items side.name;
+      name = name_rank r.mechanism r.name.items;
       established = flag r.established;
       preferred = flag r.terms.preferred;
       required = flag r.terms.required;
@@ -160,7 +170,7 @@ complete_after side c =
     record side {
       stage = 3;
       mechanism = c.mechanism.place;
-      name = name_after c.mechanism c.name.items side.name;
+      name = name_rank c.mechanism c.name.items;
       established = flag c.mechanism.established;
       preferred = flag c.terms.preferred;
       required = flag c.terms.required;

@@ -1,8 +1,9 @@
 //! A side as the numbers that the caller keeps, and back.
 
-ghost use Rattle.std.specs.Prelude.{◌≡◌, ◌==◌, ◌∷◌, [], find, nat_eq, position, MatchOption, MatchResult};
+ghost use Rattle.std.specs.Prelude.{◌≡◌, ◌==◌, ◌∷◌, [], Some, find, nat_eq, position, MatchOption, MatchResult};
 ghost use Rattle.std.specs.Cmp.Lexicographic.{pointwise};
-ghost use Rattle.krb_c_negotiation.specs.Sides.{IsAcceptorOf, IsCompleteOf, IsInitiatorOf, IsOfferedOf, IsRunningOf, RefusesAcceptor, RefusesChosen, RefusesInitiator, RefusesOffered, acceptor_after, bare_after, bare_in, chosen_in, complete_after, failed_after, initiator_after, name_after, name_rank, offered_after, rank_of, running_after, terms_in};
+ghost use Rattle.krb_c_calls.specs.declared.call_error.CallError.TheVariants as calls;
+ghost use Rattle.krb_c_negotiation.specs.Sides.{IsAcceptorOf, IsCompleteOf, IsInitiatorOf, IsOfferedOf, IsRunningOf, RefusesAcceptor, RefusesChosen, RefusesInitiator, RefusesName, RefusesOffered, acceptor_after, bare_after, bare_in, chosen_in, complete_after, failed_after, initiator_after, name_rank, offered_after, other_name, rank_of, running_after, terms_in, told_name};
 
 use crate::mechanisms::copied;
 use crate::numbers::{Stage, flag, is_set, refusal_number, refusal_of, stage_of};
@@ -33,6 +34,37 @@ fn chosen(mechanisms: Vec<Told>, number: u32) -> Result<Told, CallError>
     }
 }
 
+/// Arcs, once more.
+fn same_arcs(alloc: Global, arcs: &[u64]) -> Result<Vec<u64>, CallError>
+    ensures { MatchResult result (λ copy. copy.items ≡ arcs.now) (λ e. e ≡ calls.Memory) }
+{
+    match Vec::from_slice(alloc, arcs) {
+        Ok(copy) => Ok(copy),
+        Err(_error) => Err(CallError::Memory),
+    }
+}
+
+/// Another name of a mechanism, by its place among these.
+fn other_name(alloc: Global, others: &[Vec<u64>], place: usize) -> Result<Vec<u64>, CallError>
+    ensures { MatchResult result (λ name. other_name others.now place ≡ Some name.items) (RefusesName (other_name others.now place)) }
+{
+    match others.get(place) {
+        Some(other) => same_arcs(alloc, other.as_slice()),
+        None => Err(CallError::Number),
+    }
+}
+
+/// The name of a mechanism that has this number: 0 its own, k its k-th other one.
+fn told_name(alloc: Global, mechanism: &Told, number: usize) -> Result<Vec<u64>, CallError>
+    ensures { MatchResult result (λ name. told_name mechanism.now number ≡ Some name.items) (RefusesName (told_name mechanism.now number)) }
+{
+    if number == 0 {
+        same_arcs(alloc, mechanism.oid.as_slice())
+    } else {
+        other_name(alloc, &mechanism.others, number - 1)
+    }
+}
+
 /// What is agreed on.
 fn terms_of(side: &NegotiationRecord) -> Terms
     ensures { result ≡ terms_in side.now }
@@ -54,14 +86,16 @@ fn running_of(
     ensures { MatchResult result (IsRunningOf side.now mechanisms.items list.now) (RefusesChosen side.now mechanisms.items) }
 {
     let mechanism = chosen(mechanisms, side.mechanism)?;
-    let list = copied(alloc, list)?;
-    Ok(Running {
-        mechanism,
-        name: Vec::new(alloc),
-        established: is_set(side.established),
-        terms: terms_of(side),
-        list,
-    })
+    match told_name(alloc, &mechanism, side.name) {
+        Ok(name) => Ok(Running {
+            mechanism,
+            name,
+            established: is_set(side.established),
+            terms: terms_of(side),
+            list: copied(alloc, list)?,
+        }),
+        Err(refusal) => Err(refusal),
+    }
 }
 
 /// A side that is complete.
@@ -74,14 +108,16 @@ fn complete_of(
     ensures { MatchResult result (IsCompleteOf side.now mechanisms.items list.now) (RefusesChosen side.now mechanisms.items) }
 {
     let mechanism = chosen(mechanisms, side.mechanism)?;
-    let list = copied(alloc, list)?;
-    Ok(Complete {
-        mechanism,
-        name: Vec::new(alloc),
-        terms: terms_of(side),
-        by_mic: is_set(side.by_mic),
-        list,
-    })
+    match told_name(alloc, &mechanism, side.name) {
+        Ok(name) => Ok(Complete {
+            mechanism,
+            name,
+            terms: terms_of(side),
+            by_mic: is_set(side.by_mic),
+            list: copied(alloc, list)?,
+        }),
+        Err(refusal) => Err(refusal),
+    }
 }
 
 /// The first mechanism, and the others.
@@ -207,16 +243,6 @@ fn name_rank(mechanism: &Told, name: &[u64]) -> usize
     }
 }
 
-/// The number of the name by which both sides know a mechanism, once it is told.
-fn name_after(mechanism: &Told, name: &[u64], kept: usize) -> usize
-    ensures { result ≡ name_after mechanism.now name.now kept }
-{
-    match name {
-        [] => kept,
-        [_, ..] => name_rank(mechanism, name),
-    }
-}
-
 /// The numbers of a side that waits.
 fn running_after(side: &NegotiationRecord, running: &Running<Told>) -> NegotiationRecord
     ensures { result ≡ running_after side.now running.now }
@@ -224,7 +250,7 @@ fn running_after(side: &NegotiationRecord, running: &Running<Told>) -> Negotiati
     NegotiationRecord {
         stage: 1,
         mechanism: running.mechanism.place,
-        name: name_after(&running.mechanism, running.name.as_slice(), side.name),
+        name: name_rank(&running.mechanism, running.name.as_slice()),
         established: flag(running.established),
         preferred: flag(running.terms.preferred),
         required: flag(running.terms.required),
@@ -240,7 +266,7 @@ fn complete_after(side: &NegotiationRecord, complete: &Complete<Told>) -> Negoti
     NegotiationRecord {
         stage: 3,
         mechanism: complete.mechanism.place,
-        name: name_after(&complete.mechanism, complete.name.as_slice(), side.name),
+        name: name_rank(&complete.mechanism, complete.name.as_slice()),
         established: flag(complete.mechanism.established),
         preferred: flag(complete.terms.preferred),
         required: flag(complete.terms.required),

@@ -5,3 +5,4 @@ pub mod ContextMics
 pub mod Refusals
 pub mod Verifying
 pub mod Picking
+pub mod Retold

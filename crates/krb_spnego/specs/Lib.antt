@@ -8,3 +8,4 @@ pub mod KerberosMeaning
 pub mod Told
 pub mod Asking
 pub mod Answering
+pub mod Retelling
