@@ -1,5 +1,5 @@
 -- A call by which an initiator makes its offer (RFC 4178, 3.2 and 4.2.1).
-use Rattle.std.specs.Prelude.{◌≡◌, ◌⊎◌, ◌++◌, ℕ, List, [], ◌∷◌, length, Result, Ok, Err, Vec}
+use Rattle.std.specs.Prelude.{◌≡◌, ◌⊎◌, ◌++◌, ℕ, List, [], ◌∷◌, length, Result, Ok, Vec}
 use Rattle.std.specs.declared.alloc.Global.{Global}
 use Rattle.krb_c_calls.specs.Handing.{IsPut, IsRefused}
 use Rattle.krb_c_calls.specs.declared.call_error.CallError.{CallError}

@@ -1,5 +1,5 @@
 -- The mechanisms of a side, of what the caller tells.
-use Rattle.std.specs.Prelude.{◌≡◌, ◌⊎◌, ◌&&◌, ◌==◌, ◌<◌, ℕ, List, [], ◌∷◌, Bool, false, Option, Some, None, Result, Ok, Err, Vec, length, map, if◌then◌else◌}
+use Rattle.std.specs.Prelude.{◌≡◌, ◌⊎◌, ◌&&◌, ◌==◌, ℕ, List, [], ◌∷◌, Bool, false, Option, Some, None, Result, Ok, Err, Vec, length, map, if◌then◌else◌}
 use Rattle.std.specs.declared.alloc.Global.{Global}
 use Rattle.krb_c_calls.specs.MessageRules.{RefusesReading}
 use Rattle.krb_c_calls.specs.Statuses.{refusal_status}

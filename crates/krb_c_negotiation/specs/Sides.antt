@@ -1,5 +1,5 @@
 -- A side of a negotiation (RFC 4178, 3.2) as the numbers that the caller keeps.
-use Rattle.std.specs.Prelude.{◌≡◌, ◌⊎◌, ◌+◌, ◌-◌, ◌%◌, ◌^◌, ◌==◌, nat_eq, ℕ, List, [], ◌∷◌, Bool, false, Option, Some, None, Result, Ok, Err, Vec, find, position, slice_get, if◌then◌else◌}
+use Rattle.std.specs.Prelude.{◌≡◌, ◌⊎◌, ◌+◌, ◌-◌, ◌%◌, ◌^◌, ◌==◌, nat_eq, ℕ, List, [], ◌∷◌, Bool, Option, Some, None, Result, Ok, Err, Vec, find, position, slice_get, if◌then◌else◌}
 use Rattle.std.specs.Cmp.Lexicographic.{pointwise}
 use Rattle.std.specs.Option.{option_map}
 use Rattle.std.specs.declared.alloc.Global.{Global}

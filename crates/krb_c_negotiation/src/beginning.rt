@@ -161,9 +161,9 @@ fn hand_over(
     status
 }
 
-/// An initiator makes its offer (RFC 4178, 4.2.1), of its mechanisms, the preferred one first, which
-/// told what it made of no token. The offer is put into `out`, and behind it the encoding of the
-/// list, which MICs are over; `offer_size` tells how many octets the offer has.
+/// An initiator makes its offer (RFC 4178, 4.2.1), of its mechanisms, the preferred one first,
+/// which told what it made of no token. The offer is put into `out`, and behind it the encoding of
+/// the list, which MICs are over; `offer_size` tells how many octets the offer has.
 ///
 /// 0: the side is the one behind its offer; or, where the mechanism refused, it has failed, and
 /// nothing is put. Or 1, where `out` has too little room; 3 where a number means nothing, there is

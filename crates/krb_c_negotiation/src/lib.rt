@@ -1,5 +1,5 @@
-//! The calls of a negotiation (SPNEGO, RFC 4178) for C: a side as numbers that the caller keeps, and
-//! mechanisms that the caller runs.
+//! The calls of a negotiation (SPNEGO, RFC 4178) for C: a side as numbers that the caller keeps,
+//! and mechanisms that the caller runs.
 #![tactic(auto)]
 
 mod beginning;

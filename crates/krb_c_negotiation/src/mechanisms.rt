@@ -185,8 +185,8 @@ fn spoken_for(
     spoken: Spoken,
     tale: &Tale,
 ) -> Result<Told, AllocError>
-    ensures { IfOk result (λ told. told_content told ≡ content_of list.now record.now established (told_turn spoken (words tale.now).token)
-        (told_verified (words tale.now).list (words tale.now).verified) (told_mic (words tale.now).mic)) }
+    ensures { IfOk result (λ told. told_content told ≡ content_of list.now record.now established
+        (told_turn spoken (words tale.now).token) (told_verified (words tale.now).list (words tale.now).verified) (told_mic (words tale.now).mic)) }
 {
     let turn = turn_of(alloc, spoken, tale.token)?;
     let verified = verified_of(alloc, tale.list, tale.verified)?;
@@ -232,8 +232,10 @@ fn all_of(
     spoken: Spoken,
     tale: &Tale,
 ) -> Result<Vec<Told>, CallError>
-    ensures all { IfOk result (λ all. map told_content all.items ≡ contents side.now spoken (words tale.now) lists.now (words tale.now).mechanisms) }
-    ensures refused { IfErr result (λ e. (e ≡ calls.Memory) ⊎ ((e ≡ calls.Invalid) × (length lists.now < length (words tale.now).mechanisms))) }
+    ensures all { IfOk result (λ all. map told_content all.items
+        ≡ contents side.now spoken (words tale.now) lists.now (words tale.now).mechanisms) }
+    ensures refused { IfErr result (λ e. (e ≡ calls.Memory)
+        ⊎ ((e ≡ calls.Invalid) × (length lists.now < length (words tale.now).mechanisms))) }
 {
     let mut all = Vec::new(alloc);
     'records: for record in tale.mechanisms {
@@ -250,7 +252,8 @@ fn all_of(
 
 /// The value whose one encoding the octets are; else why they are none.
 fn value_of<T: Der + Drop>(alloc: Global, octets: &[u8]) -> Result<T, CallError>
-    ensures { MatchResult result (Encodes ⟦<T as DerEncode>⟧ octets.now) (λ e. RefusesReading ⟦<T as DerEncode>⟧ octets.now (refusal_status e)) }
+    ensures { MatchResult result (Encodes ⟦<T as DerEncode>⟧ octets.now)
+        (λ e. RefusesReading ⟦<T as DerEncode>⟧ octets.now (refusal_status e)) }
 {
     let value: T = from_bytes(alloc, octets)?;
     Ok(value)

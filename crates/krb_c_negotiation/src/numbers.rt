@@ -86,8 +86,8 @@ pub fn rule_number(rule: Rule) -> u32
     }
 }
 
-/// The number of why a side ended a negotiation: that of the rule, 256 of octets that are no message
-/// for which it waits. Where memory was wanting it did not end.
+/// The number of why a side ended a negotiation: that of the rule, 256 of octets that are no
+/// message for which it waits. Where memory was wanting it did not end.
 pub(crate) fn refusal_number(refusal: Refusal) -> u32
     ensures { result ≡ refusal_number refusal }
 {

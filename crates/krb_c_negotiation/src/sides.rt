@@ -46,7 +46,8 @@ fn same_arcs(alloc: Global, arcs: &[u64]) -> Result<Vec<u64>, CallError>
 
 /// Another name of a mechanism, by its place among these.
 fn other_name(alloc: Global, others: &[Vec<u64>], place: usize) -> Result<Vec<u64>, CallError>
-    ensures { MatchResult result (λ name. other_name others.now place ≡ Some name.items) (RefusesName (other_name others.now place)) }
+    ensures { MatchResult result (λ name. other_name others.now place ≡ Some name.items)
+        (RefusesName (other_name others.now place)) }
 {
     match others.get(place) {
         Some(other) => same_arcs(alloc, other.as_slice()),
@@ -56,7 +57,8 @@ fn other_name(alloc: Global, others: &[Vec<u64>], place: usize) -> Result<Vec<u6
 
 /// The name of a mechanism that has this number: 0 its own, k its k-th other one.
 fn told_name(alloc: Global, mechanism: &Told, number: usize) -> Result<Vec<u64>, CallError>
-    ensures { MatchResult result (λ name. told_name mechanism.now number ≡ Some name.items) (RefusesName (told_name mechanism.now number)) }
+    ensures { MatchResult result (λ name. told_name mechanism.now number ≡ Some name.items)
+        (RefusesName (told_name mechanism.now number)) }
 {
     if number == 0 {
         same_arcs(alloc, mechanism.oid.as_slice())
@@ -83,7 +85,8 @@ fn running_of(
     mechanisms: Vec<Told>,
     list: &[u8],
 ) -> Result<Running<Told>, CallError>
-    ensures { MatchResult result (IsRunningOf side.now mechanisms.items list.now) (RefusesChosen side.now mechanisms.items) }
+    ensures { MatchResult result (IsRunningOf side.now mechanisms.items list.now)
+        (RefusesChosen side.now mechanisms.items) }
 {
     let mechanism = chosen(mechanisms, side.mechanism)?;
     match told_name(alloc, &mechanism, side.name) {
@@ -105,7 +108,8 @@ fn complete_of(
     mechanisms: Vec<Told>,
     list: &[u8],
 ) -> Result<Complete<Told>, CallError>
-    ensures { MatchResult result (IsCompleteOf side.now mechanisms.items list.now) (RefusesChosen side.now mechanisms.items) }
+    ensures { MatchResult result (IsCompleteOf side.now mechanisms.items list.now)
+        (RefusesChosen side.now mechanisms.items) }
 {
     let mechanism = chosen(mechanisms, side.mechanism)?;
     match told_name(alloc, &mechanism, side.name) {
@@ -172,7 +176,8 @@ pub(crate) fn acceptor_of(
     mechanisms: Vec<Told>,
     list: &[u8],
 ) -> Result<Acceptor<Told>, CallError>
-    ensures { MatchResult result (IsAcceptorOf side.now mechanisms list.now) (RefusesAcceptor side.now mechanisms.items) }
+    ensures { MatchResult result (IsAcceptorOf side.now mechanisms list.now)
+        (RefusesAcceptor side.now mechanisms.items) }
 {
     match stage_of(side.stage)? {
         Stage::Begins => Ok(Acceptor::Fresh(Fresh {
@@ -194,7 +199,8 @@ pub(crate) fn initiator_of(
     mechanisms: Vec<Told>,
     list: &[u8],
 ) -> Result<Initiator<Told>, CallError>
-    ensures { MatchResult result (IsInitiatorOf side.now mechanisms.items list.now) (RefusesInitiator side.now mechanisms.items) }
+    ensures { MatchResult result (IsInitiatorOf side.now mechanisms.items list.now)
+        (RefusesInitiator side.now mechanisms.items) }
 {
     match stage_of(side.stage)? {
         Stage::Begins => Err(CallError::Number),

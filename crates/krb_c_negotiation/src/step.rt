@@ -205,8 +205,8 @@ fn hand_over(
 /// rejects where the step ends the negotiation.
 ///
 /// 0: the side is the one after the step, and `told` says whether something is sent. Where it says
-/// that the mechanism's own MIC lacks, no step is made, and the side is as it was. Or 1, where `out`
-/// has too little room; 3 where a number means nothing; 9, 10 or 11 where the names of the
+/// that the mechanism's own MIC lacks, no step is made, and the side is as it was. Or 1, where
+/// `out` has too little room; 3 where a number means nothing; 9, 10 or 11 where the names of the
 /// mechanisms are no encoding, or of more or fewer of them; 2 where memory was wanting: then the
 /// side and `told` are as they were.
 pub fn answer(

@@ -177,13 +177,13 @@ fn hand_over(taken: TakenUp, question: &mut QuestionRecord, out: &mut [u8], size
 
 /// What octets of the peer's ask of a side's mechanism (RFC 4178, 3.2, 4.2 and 5): whether it takes
 /// the token that came, or begins with none, and which MIC it verifies over which list; or the rule
-/// that they break first. The side makes no step. Of the tale the names, the mechanisms and the list
-/// are looked at, and that its number of what was made of a token means something.
+/// that they break first. The side makes no step. Of the tale the names, the mechanisms and the
+/// list are looked at, and that its number of what was made of a token means something.
 ///
 /// 0: `question` says it, and the token, the MIC and the list stand in `out` one behind the other.
 /// Or 1, where `out` has too little room; 3 where a number means nothing; 9, 10 or 11 where the
-/// names of the mechanisms are no encoding, or of more or fewer of them; 2 where memory was wanting:
-/// then `question` is as it was.
+/// names of the mechanisms are no encoding, or of more or fewer of them; 2 where memory was
+/// wanting: then `question` is as it was.
 pub fn take(
     alloc: Global,
     side: &NegotiationRecord,

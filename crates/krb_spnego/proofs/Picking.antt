@@ -1,6 +1,6 @@
 -- The mechanism that a first reply names.
-use Rattle.std.proofs.Common.{◌≡◌, ℕ, Option, Some, false, ap, sym, subst, ◌∙◌}
-use Rattle.std.specs.Prelude.{Vec, find, if◌then◌else◌}
+use Rattle.std.proofs.Common.{◌≡◌, ℕ, Option, Some, false, ap}
+use Rattle.std.specs.Prelude.{Vec, find}
 use Rattle.std.specs.declared.alloc.Global.{Global}
 use Rattle.krb_spnego.specs.Asking.{pick_in, pick_other}
 use Rattle.krb_spnego.specs.Told.{is_told_name}

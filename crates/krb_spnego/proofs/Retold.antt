@@ -14,7 +14,7 @@ use Rattle.krb_spnego_rules.specs.declared.side.Running.{Running}
 use Rattle.krb_spnego_rules.specs.declared.words.NegState.{NegState}
 use Rattle.krb_spnego.proofs.Hearing.{AcceptorLaw, InitiatorLaw, failed_step, later_by, none_step, one_step}
 use Rattle.krb_spnego.specs.Hearing.{HasFailed, HasNoNegotiation, IsAcceptorAfter, IsInitiatorAfter}
-use Rattle.krb_spnego.specs.Retelling.{AcceptorIsTold, AcceptorRetold, AreRetold, InitiatorIsTold, InitiatorRetold, IsOfferedRetold, IsRetold, IsRunningRetold}
+use Rattle.krb_spnego.specs.Retelling.{AcceptorIsTold, AcceptorRetold, AreRetold, InitiatorIsTold, InitiatorRetold, IsOfferedRetold, IsRunningRetold}
 use Rattle.krb_spnego.specs.Taking.{InitiatorTakes, is_fresh_side}
 use Rattle.krb_spnego.specs.Told.{is_told_name, told_meaning}
 use Rattle.krb_spnego.specs.declared.told.Told.{Told}

@@ -103,11 +103,15 @@ Tells t other refusal failed bare error name out = IsEnd t refusal failed bare e
 
 -- ---- the name that an acceptor takes of an offer
 
+-- the list's first name that names one of the mechanisms
+abbrev pub taken_name : List Told → Proposal → Option (List ℕ)
+taken_name mechanisms proposal =
+    items_in (name_at (rank_in told_meaning mechanisms proposal.mechanisms.items) proposal.mechanisms.items)
+
 abbrev pub IsNameInOffer : EncodingOf GssApiNegInit → EncodingOf (List (List ℕ)) → Fresh Told → List ℕ → Option (Vec ℕ Global) → Type 0
 IsNameInOffer o l side octets name =
     ((e : ReadError) × (RejectsOffer o octets e × (name ≡ None)))
-    ⊎ ((proposal : Proposal) × (ReadsOffer o l octets proposal
-    × (items_in name ≡ items_in (name_at (rank_in told_meaning side.mechanisms.items proposal.mechanisms.items) proposal.mechanisms.items))))
+    ⊎ ((proposal : Proposal) × (ReadsOffer o l octets proposal × (items_in name ≡ taken_name side.mechanisms.items proposal)))
 
 abbrev pub IsNameTaken : EncodingOf GssApiNegInit → EncodingOf (List (List ℕ)) → Acceptor Told → List ℕ → Option (Vec ℕ Global) → Type 0
 IsNameTaken o l (acceptors.Fresh side) octets name = IsNameInOffer o l side octets name

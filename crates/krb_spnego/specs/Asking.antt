@@ -68,7 +68,8 @@ offer_asked (Ok terms) (Some place) proposal =
 
 abbrev pub offer_asks_of : Fresh Told → Proposal → Option ℕ → Option Told → Asked
 offer_asks_of fresh proposal rank found =
-    offer_asked (after_offer (offer_in (choice_in_offer told_meaning proposal.mechanisms.items (is_first rank) found) proposal) fresh.asks) (place_in found) proposal
+    offer_asked (after_offer (offer_in (choice_in_offer told_meaning proposal.mechanisms.items (is_first rank) found) proposal) fresh.asks)
+    (place_in found) proposal
 
 abbrev pub offer_asks_at : Fresh Told → Proposal → Option ℕ → Asked
 offer_asks_at fresh proposal rank =

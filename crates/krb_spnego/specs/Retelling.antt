@@ -1,5 +1,5 @@
 -- Whole runs of a side whose mechanisms run elsewhere: before each step the caller tells of them anew.
-use Rattle.std.specs.Prelude.{◌≡◌, ◌⊎◌, ℕ, List, [], ◌∷◌}
+use Rattle.std.specs.Prelude.{◌≡◌, ℕ, List, [], ◌∷◌}
 use Rattle.krb_der_core.specs.declared.der.DerEncode.{Ghosts as EncodingOf}
 use Rattle.krb_gss_tokens.specs.declared.spnego.GssApiNegInit.{GssApiNegInit}
 use Rattle.krb_gss_tokens.specs.declared.spnego.NegTokenTarg.{NegTokenTarg}

@@ -1,5 +1,5 @@
 -- What a mechanism means whose answers are told as values (RFC 4178, 3): it answers just these.
-use Rattle.std.proofs.Common.{◌≡◌, ◌∙◌, ℕ, List, Bool, true, false, Option, Some, not, refl, sym, ap}
+use Rattle.std.proofs.Common.{◌≡◌, ◌∙◌, ℕ, List, Bool, true, Option, Some, not, ap}
 use Rattle.std.specs.Prelude.{◌||◌, None, Vec, nat_eq, []}
 use Rattle.std.specs.Cmp.Lexicographic.{pointwise}
 use Rattle.std.specs.List.{list_any}

@@ -2,9 +2,7 @@
 
 ghost use Rattle.std.specs.Prelude.{◌≡◌, if◌then◌else◌, is_some, IfOk, None};
 ghost use Rattle.std.specs.Option.{option_copied};
-ghost use Rattle.krb_spnego.specs.Answering.{AcceptorAnswers, InitiatorAnswers, IsEnd, IsEndBy, IsGivenName, IsNameInOffer, IsNameTaken, IsRejection, Tells, acceptor_refusal, initiator_refusal, is_mechanisms, is_quiet, acceptor_lacks_mic, initiator_lacks_mic, told_token};
-ghost use Rattle.krb_spnego.specs.Told.{told_meaning};
-ghost use Rattle.krb_spnego_rules.specs.AcceptorSteps.{name_at, rank_in};
+ghost use Rattle.krb_spnego.specs.Answering.{AcceptorAnswers, InitiatorAnswers, IsEnd, IsEndBy, IsGivenName, IsNameInOffer, IsNameTaken, IsRejection, Tells, acceptor_refusal, initiator_refusal, is_mechanisms, is_quiet, acceptor_lacks_mic, initiator_lacks_mic, taken_name, told_token};
 ghost use Rattle.krb_spnego_rules.specs.Fields.{items_in};
 
 use crate::asking::{first_supported, listed};
@@ -254,7 +252,7 @@ fn name_of(
     mechanisms: &[Told],
     proposal: &Proposal,
 ) -> Result<Option<Vec<u64>>, AllocError>
-    ensures { IfOk result (λ name. items_in name ≡ items_in (name_at (rank_in told_meaning mechanisms.now proposal.now.mechanisms.items) proposal.now.mechanisms.items)) }
+    ensures { IfOk result (λ name. items_in name ≡ taken_name mechanisms.now proposal.now) }
 {
     let list = proposal.mechanisms.as_slice();
     let rank = first_supported(mechanisms, list);

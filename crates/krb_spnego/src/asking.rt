@@ -1,6 +1,6 @@
 //! What a message asks of a mechanism that the caller runs elsewhere.
 
-ghost use Rattle.std.specs.Prelude.{◌≡◌, ◌&&◌, ◌==◌, find, not, is_some};
+ghost use Rattle.std.specs.Prelude.{◌≡◌, ◌&&◌, ◌==◌, find, is_some};
 ghost use Rattle.std.specs.List.{list_any};
 ghost use Rattle.std.specs.Option.{option_copied};
 ghost use Rattle.krb_spnego.specs.Asking.{AcceptorAsks, BareAsks, FirstReplyAsks, FreshAsks, InitiatorAsks, LaterAsks, OfferAsks, first_reply_asked, later_asks, offer_asks, offer_asked, pick_in, pick_other, place_in, refusal_of, first_reply_asks};
