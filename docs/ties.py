@@ -37,7 +37,8 @@ FILES = {
         " themselves, or in a tag in place of their own.",
     ),
 }
-# The file of what reads the types of a law, beside that of their codecs, and what its first line says.
+# The file of what reads the types of a law, beside that of their codecs, and what its first line
+# says.
 READS = {
     "rows_of_data_types": ("DataTypeErrors", "Data types as readers"),
     "rows_of_parts": ("PartErrors", "Encrypted parts as readers"),
