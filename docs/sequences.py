@@ -1,5 +1,6 @@
 """How the proofs of krb_show_row_laws have a SEQUENCE: as a codec, which is its fields, the way to
-them and back, the tie to its row, its octets in the words of ASN.1, and its values.
+them and back, the tie to its row, its octets in the words of ASN.1, and its values; and as a
+reader, which is its fields as its impl groups them, with the tie of its first error to its row.
 """
 
 # Codecs of elements without elements: the leaves that have it, its octets, its values.
