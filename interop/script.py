@@ -16,6 +16,8 @@ TOP = os.path.dirname(os.path.dirname(os.path.abspath(__file__)))
 PROGRAM = os.path.join(TOP, "crates", "jolmurig", "out", "jolmurig")
 PYTHON = "/usr/bin/python3"  # Debian's, for which its packages are
 PATHS = "/usr/sbin:/usr/bin:/sbin:/bin"
+# What a realm of MIT Kerberos is looked for by, and the package that has it.
+MIT = {"krb5kdc": "krb5-kdc", "kadmind": "krb5-admin-server", "kadmin.local": "krb5-admin-server", "kinit": "krb5-user"}
 
 
 def options_of(doc, *switches, paths=("--library",), with_seed=False, seed=None):

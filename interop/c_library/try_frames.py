@@ -166,10 +166,6 @@ def tried(call, octets):
     return found if isinstance(found, Status) else tuple(found)
 
 
-def model(call, octets):
-    return outcome(call, octets)
-
-
 def is_view(octets, pac_octets):
     """Whether they are a view of octets of the PAC that nobody can write."""
     return isinstance(octets, memoryview) and octets.readonly and octets.format == "B" and octets.obj is pac_octets

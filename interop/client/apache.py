@@ -10,7 +10,7 @@ import tempfile
 
 from checks import expect, say
 from realm import free_port
-from script import TOP
+from script import TOP, apt_install
 
 PACKAGES = "apache2-bin", "libapache2-mod-auth-gssapi"
 PAGE = "Hello from Apache.\n"
@@ -42,8 +42,7 @@ def folder_of_modules():
     """Where Apache's modules are, installed where they are missing and this may be done; None where they cannot be had."""
     wanted = "/usr/lib/apache2/modules/mod_auth_gssapi.so"
     if not os.path.exists(wanted) and os.geteuid() == 0:
-        command = ["apt-get", "install", "-y", "--no-install-recommends", *PACKAGES]
-        subprocess.run(command, env=dict(os.environ, DEBIAN_FRONTEND="noninteractive"), capture_output=True, timeout=600)
+        apt_install(*PACKAGES)
     return os.path.dirname(wanted) if os.path.exists(wanted) and os.path.exists("/usr/sbin/apache2") else None
 
 

@@ -6,7 +6,7 @@ import struct
 from typing import Any, Dict, Iterable, Iterator, List, NamedTuple, Optional, Tuple
 
 from krb import _items
-from krb._items import Form, Item, Leaf, Node, Registry, Secret, _all_names, _flags, _FRONT, _item, _named, _OCTETS, _Record, _RECORD, _VALUES
+from krb._items import Form, Item, Leaf, Node, Registry, _all_names, _flags, _FRONT, _item, _named, _OCTETS, _Record, _RECORD, _VALUES
 from krb._keytab import VERSION, entry_of
 from krb._library import Octets, Refused, Status, _library, plain
 from krb._page_items import FORMATS, opener, tree
