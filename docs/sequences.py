@@ -1,5 +1,6 @@
 """How the proofs of krb_show_row_laws have a SEQUENCE: as a codec, which is its fields, the way to
-them and back, the tie to its row, its octets in the words of ASN.1, and its values.
+them and back, the tie to its row, its octets in the words of ASN.1, and its values; and as a
+reader, which is its fields as its impl groups them, with the tie of its first error to its row.
 """
 
 # Codecs of elements without elements: the leaves that have it, its octets, its values.
@@ -97,8 +98,8 @@ unfolding cases fields shapes
 {ties}
 """
 
-# How proofs begin a line within an answer.
-NEXT = "\n    "
+# How proofs begin a line within an answer, and how many characters are too many for one.
+NEXT, LONG = "\n    ", 110
 
 # How fields in order are called, by their number.
 IN_ORDER = ["", "", "pair", "triple", "four", "five", "six"]
@@ -512,6 +513,7 @@ class Struct(Content):
         if len(self.fields) > 1:
             fields, ties = [f"({it})" for it in fields], [f"({it})" for it in ties]
         blanks = [f"{it}_refused schema k _{' _' * (2 * at + 1)}" for at, it in enumerate(IN_ORDER)]
+        sign = " " if sum(map(len, fields)) < LONG else NEXT
         text = READER.format(
             title=self.title,
             type=self.type,
@@ -520,7 +522,7 @@ class Struct(Content):
             count=len(self.fields),
             depth=sucs(self.depth),
             depth_of_fields=sucs(self.depth - 1),
-            fields=self.in_order(fields, IN_ORDER, " "),
+            fields=self.in_order(fields, IN_ORDER, sign),
             parts=names[0] if len(names) == 1 else f"({self.grouped(names, ', ')})",
             ties=f"    ({self.in_order(ties, blanks, NEXT)})",
         )

@@ -3,7 +3,8 @@
 A law `rows_of_..` of its src/laws.rt has a clause a type, which names the type and its row. All
 else follows: the row says which fields there are and what they hold, and the type's `impl Sequence`
 what Rust calls them and how it groups them. So a new type needs its clause, and no line here. FILES
-has a line a law: the file with the codecs of its types, beside the answers to its clauses.
+has a line a law: the file with the codecs of its types, beside the answers to its clauses. READS
+has one, too: the file with what reads these types, and their first errors.
 docs/sequences.py says how a SEQUENCE is written.
 """
 
@@ -37,7 +38,8 @@ FILES = {
         " themselves, or in a tag in place of their own.",
     ),
 }
-# The file of what reads the types of a law, beside that of their codecs, and what its first line says.
+# The file of what reads the types of a law, beside that of their codecs, and what its first line
+# says.
 READS = {
     "rows_of_data_types": ("DataTypeErrors", "Data types as readers"),
     "rows_of_parts": ("PartErrors", "Encrypted parts as readers"),

@@ -233,7 +233,7 @@ krb_status krb_verify_checksum_kept(const krb_checksum_key *kept, const uint8_t 
 krb_status krb_n_fold(const uint8_t *input, size_t input_size, uint8_t *out, size_t out_size);
 
 /* Whether the octets are the one DER encoding of such a message, by a number KRB_MESSAGE_.., with nothing behind it: KRB_DONE.
-   KRB_NUMBER; else, of the first fault: KRB_INVALID, KRB_TRUNCATED, KRB_UNSUPPORTED; KRB_MEMORY. */
+   KRB_NUMBER; else, of the first fault: KRB_INVALID, KRB_TRUNCATED, KRB_UNSUPPORTED. It takes no memory. */
 krb_status krb_check(int32_t number, const uint8_t *octets, size_t octets_size);
 
 /* As krb_encrypt, of the one DER encoding of such a part: what krb_check with its number refuses is refused so, before all else.
@@ -861,29 +861,32 @@ krb_status krb_make_neg_token_init(const uint8_t *mechanisms, size_t mechanisms_
 krb_status krb_make_neg_token_resp(uint32_t state, const uint8_t *mechanism, size_t mechanism_size, const uint8_t *token, size_t token_size,
                                    const uint8_t *mic, size_t mic_size, uint8_t *out, size_t room, size_t *size);
 
-/* The decisions of a negotiation (RFC 4178, 3.2, 4.2 and 5): which rule a message breaks first, whether the mechanism takes its token, and what a side does
-   then. The messages are read and made by the calls above; the mechanism, its MICs and all octets are the caller's. No call here allocates.
+/* A negotiation (RFC 4178, 3.2, 4.2 and 5): octets of the peer's go in, octets to send come out. The messages are read by strict DER, the mechanism is chosen, MICs
+   are asked for and the rules are kept here; the mechanism's tokens and MICs are the caller's.
 
-   One side of a negotiation is a krb_negotiation that the caller keeps: all 0 at its beginning, but for `role` and `asks`, and for `established` of an
-   initiator whose first mechanism has ended its context with its first token. An initiator has sent its offer then. Each message of the peer takes two calls:
+   One side of a negotiation is a krb_negotiation that the caller keeps: all 0 at its beginning, but for `role` and `asks`. Beside it the caller keeps `list`, the
+   DER encoding of the initiator's list of mechanisms as it was sent, which MICs are over: krb_negotiation_begin tells it to an initiator, krb_negotiation_take
+   to an acceptor. An initiator makes its offer by krb_negotiation_begin. Then each message of the peer takes two calls, with the same octets:
 
-     krb_negotiation_take      with what the message says. Then, where `steps` is 1, the mechanism takes the message's token (mechToken, responseToken), or
-                               begins with none where the acceptor chose another one than the initiator's first
-     krb_negotiation_answer    with what the mechanism made of it, and what the message's mechListMIC is. Then, where `sends` is 1, a message goes out
+     krb_negotiation_take      tells what the octets ask of a mechanism, or the rule that they break. Where `steps` is 1, the mechanism takes the token, or begins with
+                               none; where `has_mic` is 1 and its context is established then, with no token to send, it verifies the peer's MIC over the list
+     krb_negotiation_answer    makes the step, with what the mechanism made of them, and tells the octets to send. Where it says `lacks_mic`, this side's MIC over the
+                               list has to be sent: the caller makes it, and calls again with it
 
-   until `stage` is KRB_STAGE_COMPLETE or KRB_STAGE_FAILED. Where it fails by octets that are no message, or for want of memory, the caller ends it. After a
-   failure it may send a message with KRB_NEG_STATE_REJECT.
+   until `stage` is KRB_STAGE_COMPLETE or KRB_STAGE_FAILED, or KRB_STAGE_BARE with an established context. Octets that break a rule are answered too: the side has
+   failed then, and the octets to send reject. What krb_negotiation_take tells is for the caller's mechanism alone: krb_negotiation_answer reads the octets by itself,
+   and where another mechanism is told of than it chooses, that one has refused.
 
-   A MIC is one over the DER encoding of the initiator's list of mechanisms, mechTypes, as it was sent; a caller that verified it over anything else, or not at
-   all, has no protection against a third who changed the list. */
+   A MIC that was verified over anything else than `list`, or not at all, is no protection against a third who changed the list. */
 enum { KRB_INITIATOR = 0, KRB_ACCEPTOR = 1 };
 
 enum {
-    KRB_STAGE_BEGINS = 0,   /* no message came: of an initiator its offer is sent */
+    KRB_STAGE_BEGINS = 0,   /* no message came; of an initiator: its offer is not made */
     KRB_STAGE_WAITS = 1,    /* it waits for a later message */
-    KRB_STAGE_TAKEN = 2,    /* a message is taken: krb_negotiation_answer is next */
+    KRB_STAGE_OFFERED = 2,  /* an initiator's offer is made */
     KRB_STAGE_COMPLETE = 3, /* it is complete */
-    KRB_STAGE_FAILED = 4    /* it failed, for good, by `rule` */
+    KRB_STAGE_FAILED = 4,   /* it failed, for good, by `rule` */
+    KRB_STAGE_BARE = 5      /* a mechanism's own tokens are exchanged, with no negotiation around them */
 };
 
 /* The rule that a message broke. They are looked at in another order than that of their numbers: of an offer NO_MECHANISM, UNKNOWN_MECHANISM, UNPROTECTED,
@@ -906,7 +909,8 @@ enum {
     KRB_NEGOTIATION_RULE_WRONG_MIC = 12,        /* the MIC does not hold of the list of mechanisms (5) */
     KRB_NEGOTIATION_RULE_NO_MIC = 13,           /* a MIC has to come, or there is nothing to go on with (5) */
     KRB_NEGOTIATION_RULE_EARLY_COMPLETION = 14, /* accept-completed while this side has a token to send */
-    KRB_NEGOTIATION_RULE_FINISHED = 15          /* a message after this side was complete */
+    KRB_NEGOTIATION_RULE_FINISHED = 15,         /* a message after this side was complete */
+    KRB_NEGOTIATION_RULE_UNREAD = 256           /* the octets are no message for which this side waits */
 };
 
 /* One side. Of a flag each number but 0 is set; the calls write 1. */
@@ -915,72 +919,77 @@ typedef struct krb_negotiation {
     uint32_t asks;        /* flag, of an acceptor: it wants MICs whichever mechanism is chosen */
     uint32_t stage;       /* KRB_STAGE_.. */
     uint32_t rule;        /* of KRB_STAGE_FAILED, KRB_NEGOTIATION_RULE_.. */
+    uint32_t mechanism;   /* the number of the mechanism that both sides use; of KRB_STAGE_OFFERED that of the first */
     uint32_t established; /* flag: the mechanism's context is established on this side */
     uint32_t preferred;   /* flag: the mechanism is the initiator's first one */
     uint32_t required;    /* flag: MICs have to be exchanged (5) */
     uint32_t sent;        /* flag: this side has sent its MIC; the last message of a side that is complete does not change it */
     uint32_t by_mic;      /* flag: it is complete, and a MIC of the peer held */
-    uint32_t said;        /* of the message that was taken last: its negState, KRB_NEG_STATE_ABSENT of an offer */
-    uint32_t first;       /* flag, of that message: it is the offer, whose answer names the mechanism */
-    uint32_t steps;       /* flag, of that message: the mechanism takes its token, or begins with none */
+    size_t name;          /* which of the mechanism's names supportedMech has: 0 its own, k its k-th other one */
 } krb_negotiation;
 
-/* What supportedMech of a reply names; of an offer, the first of its mechanisms that this side has. */
-enum {
-    KRB_CHOICE_ABSENT = 0,  /* there is no supportedMech; the offer has no mechanism */
-    KRB_CHOICE_UNKNOWN = 1, /* one that was not offered; this side has none of the offer's */
-    KRB_CHOICE_FIRST = 2,   /* the initiator's first one */
-    KRB_CHOICE_OTHER = 3    /* another one */
-};
+/* A mechanism of a side. */
+typedef struct krb_mechanism {
+    uint32_t number;    /* the number by which the caller knows it; no other of the side has it */
+    uint32_t integrity; /* flag: its context has MICs (RFC 2743, 1.2.2) */
+    uint32_t is_bare;   /* flag: the octets that came are a first token of its own, with no negotiation around it; looked at in the first octets of an acceptor */
+} krb_mechanism;
 
-/* What a message says. */
-typedef struct krb_negotiation_message {
-    uint32_t state;     /* negState, KRB_NEG_STATE_..; of an offer KRB_NEG_STATE_ABSENT */
-    uint32_t choice;    /* KRB_CHOICE_.. */
-    uint32_t integrity; /* flag: that mechanism offers integrity; looked at with KRB_CHOICE_FIRST and KRB_CHOICE_OTHER */
-    uint32_t has_token; /* flag: it has a mechToken or a responseToken */
-    uint32_t has_mic;   /* flag: it has a mechListMIC; looked at in an offer (of a reply krb_negotiation_answer is told) */
-} krb_negotiation_message;
-
-/* A side takes a message: an acceptor that begins as the offer, an initiator that begins as the first reply, a side that waits as a later message.
-   KRB_DONE: the stage is KRB_STAGE_TAKEN, and `steps` says whether the mechanism takes a token (of an offer, where the chosen mechanism is the initiator's
-   first one and there is a mechToken; else while the context is not established); or it is KRB_STAGE_FAILED, and `rule` says which rule is broken first. A
-   message to a complete side fails it by KRB_NEGOTIATION_RULE_FINISHED; a side that has failed is as it was. But for `stage` and `rule`, a failure changes
-   nothing.
-   KRB_NUMBER: role, stage, state or choice is none of the numbers above, or the message before this one is not answered yet; *side is as it was. */
-krb_status krb_negotiation_take(krb_negotiation *side, const krb_negotiation_message *message);
-
-/* What the mechanism made of the token. */
+/* What a mechanism made of a token, or of none where it begins. */
 enum {
     KRB_PROGRESS_CONTINUES = 0,       /* it waits for another token, and has one to send */
     KRB_PROGRESS_ENDS_WITH_TOKEN = 1, /* its context is established, and it has a last token to send */
     KRB_PROGRESS_ENDS = 2,            /* its context is established, and it has no token to send */
-    KRB_PROGRESS_REFUSED = 3          /* it refused the token */
+    KRB_PROGRESS_REFUSED = 3,         /* it refused the token; its token says why, and goes out with the message that rejects */
+    KRB_PROGRESS_RESTS = 4            /* it made no step: no token was for it */
 };
 
-/* What the message's mechListMIC is. It can be verified where the context is established, with no token to send. */
-enum {
-    KRB_MIC_ABSENT = 0, /* there is none */
-    KRB_MIC_HOLDS = 1,  /* it holds of the list of mechanisms */
-    KRB_MIC_WRONG = 2   /* it does not, or cannot be verified yet */
-};
+/* What octets ask of a mechanism. The token, the MIC and the list stand in `out` one behind the other, of so many octets. */
+typedef struct krb_negotiation_question {
+    uint32_t rule;      /* KRB_NEGOTIATION_RULE_.. that is broken, and then all else is 0; KRB_NEGOTIATION_RULE_NONE where none is so far */
+    uint32_t mechanism; /* the mechanism's number */
+    uint32_t steps;     /* 1 where it takes the token, or begins with none */
+    uint32_t has_token; /* 1 where a token came */
+    uint32_t has_mic;   /* 1 where a MIC of the peer's came */
+    uint32_t has_list;  /* 1 where a list of mechanisms came, in an offer */
+    size_t token_size;
+    size_t mic_size;
+    size_t list_size;
+} krb_negotiation_question;
 
-/* The message that a side sends, krb_make_neg_token_resp makes it; of no message all is 0. */
+/* What a step comes to. */
 typedef struct krb_negotiation_reply {
-    uint32_t sends;     /* 1 where a message is sent */
-    uint32_t state;     /* its negState, KRB_NEG_STATE_.. */
-    uint32_t names;     /* 1 where its supportedMech names the mechanism: the acceptor's first one */
-    uint32_t has_token; /* 1 where it has the mechanism's token */
-    uint32_t has_mic;   /* 1 where it has this side's MIC over the initiator's list of mechanisms */
+    uint32_t lacks_mic; /* 1 where this side's MIC has to be told: no step is made, and the side is as it was */
+    uint32_t sends;     /* 1 where the octets in `out` are sent */
 } krb_negotiation_reply;
 
-/* What a side does with the message that it took, and the message that it sends: `progress` is KRB_PROGRESS_.., and not looked at unless `steps` is set; `mic`
-   is KRB_MIC_...
-   KRB_DONE: the stage is KRB_STAGE_WAITS, KRB_STAGE_COMPLETE or KRB_STAGE_FAILED, and *reply tells of the message. A side that is complete may have a last one
-   to send; one that failed has none, and but for `stage` and `rule` is as it was.
-   KRB_NUMBER: role, stage or `said`, `progress` where it is looked at, or `mic` is none of the numbers above, or the stage is another than KRB_STAGE_TAKEN;
-   *side and *reply are as they were. `reply` overlaps nothing else that is passed. */
-krb_status krb_negotiation_answer(krb_negotiation *side, uint32_t progress, uint32_t mic, krb_negotiation_reply *reply);
+/* An initiator makes its offer. `names` are the names of each mechanism, its own first, the preferred mechanism first: the DER encoding of a SEQUENCE OF SEQUENCE OF
+   OBJECT IDENTIFIER, with one inner SEQUENCE for each of `mechanisms`. `mechanism` is the number of the first one, `progress` KRB_PROGRESS_.. of its first step,
+   with no token, and `token` its first token. The offer stands in `out`, of *offer_size octets, and behind it the list.
+   KRB_DONE: the side is the one after its offer; or the mechanism refused, the side has failed, and there is no offer.
+   KRB_NUMBER: a number is none of those above, there is no mechanism, or the side is an acceptor or has begun. KRB_INVALID, KRB_TRUNCATED, KRB_UNSUPPORTED: `names` is no
+   such encoding; KRB_INVALID: it is of more or fewer mechanisms, or one has no name. KRB_ROOM, KRB_MEMORY. Then *side and *offer_size are as they were. */
+krb_status krb_negotiation_begin(krb_negotiation *side, const uint8_t *names, size_t names_size, const krb_mechanism *mechanisms, size_t mechanisms_count,
+                                 uint32_t mechanism, uint32_t progress, const uint8_t *token, size_t token_size, size_t *offer_size,
+                                 uint8_t *out, size_t room, size_t *size);
+
+/* What octets of the peer's ask of a mechanism; the side stays as it is. An acceptor's list comes with the offer, and is empty before.
+   KRB_NUMBER: role, stage, rule, mechanism or name of the side is none of the numbers above, or an initiator has not begun. KRB_INVALID, KRB_TRUNCATED, KRB_UNSUPPORTED as above.
+   KRB_ROOM, KRB_MEMORY. Then *question is as it was. */
+krb_status krb_negotiation_take(const krb_negotiation *side, const uint8_t *names, size_t names_size, const krb_mechanism *mechanisms, size_t mechanisms_count,
+                                const uint8_t *list, size_t list_size, const uint8_t *octets, size_t octets_size, krb_negotiation_question *question,
+                                uint8_t *out, size_t room, size_t *size);
+
+/* A side makes the step that octets of the peer's ask for. `mechanism` is the number of the mechanism that is told of, `progress` what it made of the token, and
+   `token` its own token; `verified` is the peer's MIC, where the mechanism verified that it holds of `list`, and `mic` this side's MIC over `list`, where it is
+   known that one is sent: each is empty else.
+   KRB_DONE: the side is the one after the step, and *reply says whether something is sent; or it says that a MIC lacks, and the side is as it was.
+   KRB_NUMBER, KRB_INVALID, KRB_TRUNCATED, KRB_UNSUPPORTED as above, KRB_NUMBER of `progress` too; KRB_ROOM, KRB_MEMORY. Then *side and *reply are as they were. `reply`
+   and `side` overlap nothing else that is passed. */
+krb_status krb_negotiation_answer(krb_negotiation *side, const uint8_t *names, size_t names_size, const krb_mechanism *mechanisms, size_t mechanisms_count,
+                                  const uint8_t *list, size_t list_size, const uint8_t *octets, size_t octets_size, uint32_t mechanism, uint32_t progress,
+                                  const uint8_t *token, size_t token_size, const uint8_t *verified, size_t verified_size, const uint8_t *mic, size_t mic_size,
+                                  krb_negotiation_reply *reply, uint8_t *out, size_t room, size_t *size);
 
 /* A client: tickets of a KDC, and the request for a service (RFC 4120, 3.1 to 3.3; docs/CLIENT.md).
 

@@ -77,10 +77,14 @@ def signed_octets(pac, part):
     }
 
 
+def fits(pac, kind, key):
+    """Whether a key has the length of the keys of a signature's type."""
+    return len(key) == KEY_SIZES[CHECKSUMS[signature_place(pac, kind)[2]]]
+
+
 def holds(pac, kind, key, message):
     start, end, number = signature_place(pac, kind)
-    etype = CHECKSUMS[number]
-    return len(key) == KEY_SIZES[etype] and checksum(etype, key, PAC_USAGE, message) == pac[start:end]
+    return fits(pac, kind, key) and checksum(CHECKSUMS[number], key, PAC_USAGE, message) == pac[start:end]
 
 
 def pac_made(pac, part, opener, kdc):

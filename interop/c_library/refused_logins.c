@@ -1,7 +1,8 @@
 /* Refuses each allocation of the calls of an acceptor and of a client in turn: refused_logins FILE, whose rows expect_logins.py writes. A call whose allocation is
-   refused answers KRB_MEMORY, tells nothing and touches nothing, or answers as it does else; no block is left. The calls of a negotiation ask for no memory. */
+   refused answers KRB_MEMORY, tells nothing and touches nothing, or answers as it does else; no block is left. So do those of a negotiation. */
 #include "allocations.h"
 #include "login_calls.h"
+#include "negotiating.h"
 #include <stdio.h>
 #include <stdlib.h>
 #include <string.h>
@@ -32,17 +33,56 @@ static void try_call(const struct login *it) {
     drop(&whole);
 }
 
-/* A negotiation of two messages, and calls that are refused. */
-static void try_negotiation(void) {
-    krb_negotiation side = {.role = KRB_ACCEPTOR, .asks = 1}, wrong = {.role = 2};
-    krb_negotiation_message offer = {.state = KRB_NEG_STATE_ABSENT, .choice = KRB_CHOICE_OTHER, .integrity = 1};
+/* What a call of a negotiation answers: 0 makes an offer, 1 tells what one asks, 2 answers one, 3 answers a reply. */
+struct negotiated {
+    krb_status status;
+    krb_negotiation side;
+    krb_negotiation_question question;
     krb_negotiation_reply reply;
-    begin_allocations(1, 1);
-    krb_status statuses[] = {krb_negotiation_take(&side, &offer), krb_negotiation_answer(&side, KRB_PROGRESS_ENDS, KRB_MIC_ABSENT, &reply),
-                             krb_negotiation_take(&wrong, &offer), krb_negotiation_answer(&wrong, KRB_PROGRESS_ENDS, KRB_MIC_ABSENT, &reply)};
-    struct allocations seen = end_allocations();
-    for (size_t k = 0; k < sizeof statuses / sizeof *statuses; k++)
-        EXPECT(statuses[k] == (k < 2 ? KRB_DONE : KRB_NUMBER) && seen.requests == 0, "call %zu of a negotiation: status %u, %ld requests", k, statuses[k], seen.requests);
+    size_t offer_size, size;
+    uint8_t out[MESSAGE_ROOM];
+};
+
+static struct negotiated negotiated_by(int call, long at, int on, struct allocations *seen) {
+    static const krb_mechanism mechanisms[] = {{0, 1, 0}, {1, 1, 0}};
+    const struct said said = {KRB_NEG_STATE_REQUEST_MIC, CHOICE_FIRST, 1, 1, 0};
+    struct negotiated it;
+    memset(&it, 0, sizeof it);
+    bool accepts = call == 1 || call == 2;
+    it.side = (krb_negotiation){.role = accepts ? KRB_ACCEPTOR : KRB_INITIATOR, .stage = call == 3 ? KRB_STAGE_OFFERED : KRB_STAGE_BEGINS, .asks = accepts};
+    struct message message = message_of(&said, accepts);
+    begin_allocations(at, on);
+    if (call == 0)
+        it.status = krb_negotiation_begin(&it.side, NAMES, sizeof NAMES, mechanisms, 2, 0, KRB_PROGRESS_CONTINUES, TOKEN, sizeof TOKEN, &it.offer_size, it.out, sizeof it.out, &it.size);
+    else if (call == 1)
+        it.status = krb_negotiation_take(&it.side, NAMES, sizeof NAMES, mechanisms, 2, NULL, 0, message.octets, message.size, &it.question, it.out, sizeof it.out, &it.size);
+    else
+        it.status = krb_negotiation_answer(&it.side, NAMES, sizeof NAMES, mechanisms, 2, LIST, sizeof LIST, message.octets, message.size, 0, KRB_PROGRESS_ENDS, NULL, 0, NULL, 0,
+                                           OWN_MIC, sizeof OWN_MIC, &it.reply, it.out, sizeof it.out, &it.size);
+    *seen = end_allocations();
+    return it;
+}
+
+/* Each allocation of each of them. */
+static void try_negotiation(void) {
+    for (int call = 0; call < 4; call++) {
+        struct allocations all, seen;
+        long of_negotiation = 0;
+        struct negotiated right = negotiated_by(call, 0, 0, &all), before = right;
+        EXPECT(right.status == KRB_DONE && right.size > 0 && all.held == 0, "call %d of a negotiation: status %u, %ld blocks left", call, right.status, all.held);
+        memset(&before, 0, sizeof before);
+        before.status = KRB_MEMORY;
+        before.side = (krb_negotiation){.role = call == 1 || call == 2 ? KRB_ACCEPTOR : KRB_INITIATOR, .stage = call == 3 ? KRB_STAGE_OFFERED : KRB_STAGE_BEGINS, .asks = call == 1 || call == 2};
+        for (int on = 0; on < 2; on++)
+            for (long at = 1; at <= all.requests; at++) {
+                struct negotiated it = negotiated_by(call, at, on, &seen);
+                bool is_memory = !memcmp(&it, &before, sizeof it), is_same = !memcmp(&it, &right, sizeof it);
+                EXPECT((is_memory || is_same) && seen.held == 0, "call %d of a negotiation, request %ld of %ld refused: status %u, %ld blocks left", call, at, all.requests, it.status, seen.held);
+                of_negotiation += is_memory;
+                refusals++;
+            }
+        EXPECT(of_negotiation > 0, "no allocation of call %d of a negotiation was refused", call);
+    }
 }
 
 int main(int count, char **words) {

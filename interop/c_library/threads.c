@@ -2,6 +2,7 @@
    expect_logins.py writes. */
 #include "calls.h"
 #include "login_calls.h"
+#include "negotiating.h"
 #include <pthread.h>
 #include <stdio.h>
 #include <stdlib.h>
@@ -116,10 +117,12 @@ static void read_logins(const char *name) {
 /* A negotiation of this thread's own: an offer of another mechanism than the first is answered by its name and request-mic (RFC 4178, 5). */
 static int is_negotiated(void) {
     krb_negotiation side = {.role = KRB_ACCEPTOR};
-    krb_negotiation_message offer = {.state = KRB_NEG_STATE_ABSENT, .choice = KRB_CHOICE_OTHER, .integrity = 1, .has_token = 1};
-    krb_negotiation_reply reply = {0};
-    int well = krb_negotiation_take(&side, &offer) == KRB_DONE && krb_negotiation_answer(&side, KRB_PROGRESS_ENDS, KRB_MIC_ABSENT, &reply) == KRB_DONE;
-    return well && side.stage == KRB_STAGE_WAITS && reply.sends && reply.names && reply.state == KRB_NEG_STATE_REQUEST_MIC && !reply.has_token && !reply.has_mic;
+    const struct said offer = {.state = KRB_NEG_STATE_ABSENT, .choice = CHOICE_OTHER, .integrity = 1, .has_token = 1};
+    krb_negotiation_question question = {0};
+    struct sent sent = {0};
+    bool is_read = false;
+    int well = step_asked(&side, &offer, &question) == KRB_DONE && !question.rule && !question.steps && step_made(&side, &offer, 0, KRB_PROGRESS_RESTS, false, &is_read, &sent) == KRB_DONE;
+    return well && is_read && side.stage == KRB_STAGE_WAITS && sent.sends && sent.names && sent.state == KRB_NEG_STATE_REQUEST_MIC && !sent.has_token && !sent.has_mic;
 }
 
 static void *log_in(void *argument) {

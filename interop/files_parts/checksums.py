@@ -5,10 +5,13 @@ import struct
 from ciphers import sealed
 from judges import principal_name, SUITES, tickets_of
 from octets import flipped, octets_in
-from pac import CIPHER_PATH, FULL, KDC, PAC_PATH, SERVER, TICKET, TICKET_USAGE, changed_at, holds, pac_entries, pac_in, signed_octets, ticket_parts
+from pac import CIPHER_PATH, FULL, KDC, PAC_PATH, SERVER, TICKET, TICKET_USAGE, changed_at, fits, holds, pac_entries, pac_in, signed_octets, ticket_parts
 from jolmurig import Failed, shown
 
 from made import WEB
+
+
+UNVERIFIED = "not verified: no key of the KDC of its type was given"
 
 
 def told_of(part, opener, own):
@@ -24,11 +27,12 @@ def told_of(part, opener, own):
         kdcs = [one for one in held if may_be_kdcs(*one)]
         by_opener = bool(held) and held[0][1] == opener
         made = "made with the key that opened the ticket" if by_opener else "made with a key that is not the KDC's"
-        found[name] = "holds" if kdcs else made if held else "holds under none of the keys"
+        fails = [key_name for key_name, key in own if may_be_kdcs(key_name, key) and kind in entries and fits(pac, kind, key)]
+        found[name] = "holds" if kdcs else made if held else "differs" if fails else UNVERIFIED
         if kind not in entries:
             found[name] = "absent"
-        if held:
-            found[name + "-key"] = (kdcs or held)[0][0]
+        if held or fails:
+            found[name + "-key"] = (kdcs or held)[0][0] if held else fails[0]
     return found
 
 
@@ -93,7 +97,7 @@ def judge_flips(session, title, cache, keytabs, keys):
     whole = {"server-checksum": "holds", "kdc-checksum": "holds"}
     whole["ticket-checksum"] = "holds" if TICKET in entries else "absent"
     whole["full-checksum"] = "holds" if FULL in entries else "absent"  # MIT Kerberos writes it since 1.21.
-    none, cases = "holds under none of the keys", {}
+    none, cases = "differs", {}
     for kind, (place, size) in entries.items():
         expected = {SERVER: {"server-checksum": "differs", "kdc-checksum": none}, KDC: {"kdc-checksum": none}}.get(kind, {"server-checksum": "differs"})
         expected.update({"ticket-checksum": none} if kind == TICKET else {})

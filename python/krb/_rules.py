@@ -100,8 +100,7 @@ TEXTS: Dict[Rule, str] = {
 
 
 class NegotiationRule(enum.IntEnum):
-    """The rules of a negotiation (docs/NEGOTIATION.md), with their numbers in krb.h. `NONE` is of no refusal. `UNREAD` is of octets that are no message, or one
-    for which the side does not wait, and is the package's own."""
+    """The rules of a negotiation (docs/NEGOTIATION.md), with their numbers in krb.h. `NONE` is of no refusal."""
 
     NONE = 0
     NO_STATE = 1

@@ -8,7 +8,7 @@ from typing import Any, Iterable, List, Optional, Tuple
 from krb import spnego
 from krb._library import Octets, Refused, Status, plain
 from krb._mechanism import KerberosMechanism, Mechanism
-from krb._negotiation import NO_STATE, Choice, Message, Mic, Progress, Side, Stage, answer, take
+from krb._negotiation import Mechanisms, Progress, Question, Side, Stage, Told, answer, begin, mechanisms_of, take
 from krb._rules import NEGOTIATION_TEXTS, NegotiationRule
 
 __all__ = ["KerberosMechanism", "Mechanism", "NegotiationRole", "NegotiationRule", "NegotiationState", "Negotiator", "NotNegotiated"]
@@ -58,10 +58,6 @@ def _ended(error: BaseException) -> Exception:
     return Refused(error.status) if isinstance(error, Refused) else RuntimeError("the negotiation has ended: %s: %s" % (type(error).__name__, error))
 
 
-def _is_named(mechanism: Mechanism, name: bytes) -> bool:
-    return name == mechanism.oid or name in mechanism.names
-
-
 def _text(rule: NegotiationRule, cause: Optional[Exception]) -> Optional[str]:
     """The message of a refusal with the mechanism's own; None where it has none."""
     return None if cause is None else "%s: %s: %s" % (rule.name, NEGOTIATION_TEXTS[rule], cause)
@@ -81,8 +77,8 @@ def _spnego_inner(octets: bytes) -> Optional[bytes]:
 class Negotiator:
     """One side of one negotiation: `step` takes what came from the peer, and tells what is to be sent.
 
-    What is decided of each message is a theorem about the library (docs/NEGOTIATION.md). That this class reads the messages, calls the library and the
-    mechanism in their order and writes what they say is tested.
+    Messages are read, decided on and written by the library, and that is a theorem about it (docs/NEGOTIATION.md). That this class hands their tokens and MICs
+    to the mechanism, and what the mechanism made of them to the library, is tested.
 
     - `role`: `NegotiationRole`. `mechanisms`: objects as `Mechanism` has it, of this negotiation alone; of an initiator in the order of its preference.
     - `asks`: whether an acceptor wants MICs whichever mechanism is chosen: None for one of two or more mechanisms alone. It needs them then, since a third may
@@ -103,10 +99,8 @@ class Negotiator:
             raise ValueError("an acceptor alone asks for MICs")
         if asks is None:
             asks = self.role == NegotiationRole.ACCEPTOR and len(self._mechanisms) > 1
-        self._side = Side(role=self.role, asks=bool(asks))
-        self._mechanism: Optional[Mechanism] = None
-        self._name, self._list = b"", b""
-        self._begun = self._bare = False
+        self._side, self._list = Side(role=self.role, asks=bool(asks)), b""
+        self._names = [[mechanism.oid, *(name for name in mechanism.names if name != mechanism.oid)] for mechanism in self._mechanisms]
         self._state, self._lock = NegotiationState.RUNNING, threading.Lock()
         self._ended: Optional[Exception] = None
 
@@ -121,12 +115,14 @@ class Negotiator:
     @property
     def mechanism(self) -> Optional[Mechanism]:
         """The mechanism that both sides use, once this side is complete; else None."""
-        return self._mechanism if self.state == NegotiationState.COMPLETE else None
+        return self._mechanisms[self._side.mechanism] if self.state == NegotiationState.COMPLETE else None
 
     @property
     def name(self) -> Optional[bytes]:
         """The content of the OBJECT IDENTIFIER by which they name it; None before this side is complete, and where nothing was negotiated."""
-        return self._name or None if self.state == NegotiationState.COMPLETE else None
+        if self.state != NegotiationState.COMPLETE or self._side.stage == Stage.BARE:
+            return None
+        return self._names[self._side.mechanism][self._side.name]
 
     @property
     def by_mic(self) -> bool:
@@ -154,140 +150,64 @@ class Negotiator:
         with self._lock:
             if self._ended is not None:
                 raise copy.copy(self._ended)
-            begins = self.role == NegotiationRole.INITIATOR and not self._begun
+            begins = self.role == NegotiationRole.INITIATOR and self._side.stage == Stage.BEGINS
             if octets is None and not begins and self._state != NegotiationState.COMPLETE:
                 raise ValueError("a token of the peer's is needed")
             try:
-                told = self._took(octets)
-                is_complete = self._mechanism is not None and self._mechanism.established if self._bare else self._side.stage == Stage.COMPLETE
+                told = self._begun(octets) if begins else self._answered(octets or b"")
+                is_complete = self._side.stage == Stage.COMPLETE or self._side.stage == Stage.BARE and self._side.established
                 self._state = NegotiationState.COMPLETE if is_complete else NegotiationState.RUNNING
                 return told, self._state
             except BaseException as error:
                 self._state, self._ended = NegotiationState.FAILED, _ended(error)
                 raise
 
-    def _took(self, octets: Optional[bytes]) -> Optional[bytes]:
-        if self._state == NegotiationState.COMPLETE:
-            raise NotNegotiated(NegotiationRule.FINISHED)
-        if octets is None:
-            return self._offer()
-        if self.role == NegotiationRole.INITIATOR:
-            return self._replied(octets) if self._begun else self._hinted(octets)
-        if self._bare:
-            return self._bare_step(octets)
-        return self._offered(octets) if self._mechanism is None else self._later(octets)
-
-    def _refusal(self, rule: int, cause: Optional[Exception] = None) -> NotNegotiated:
-        """The refusal by a rule, with the answer to it. A peer that rejects waits for none."""
-        rule = NegotiationRule(rule)
-        told = getattr(cause, "error", None)
-        said = told if isinstance(told, bytes) else b""
-        if not self._bare and rule != NegotiationRule.REJECTED:
-            # supportedMech stands in the acceptor's first reply alone (RFC 4178, 4.2.2), and says there how the mechanism's token is to be read.
-            name = self._name if said and self._side.first and self.role == NegotiationRole.ACCEPTOR else b""
-            said = spnego.make_neg_token_resp(spnego.NegState.REJECT, name, said)
-        return NotNegotiated(rule, said, _text(rule, cause))
-
-    # The initiator.
-
-    def _hinted(self, octets: bytes) -> bytes:
-        """The offer, after octets of a server that speaks first. They tell nothing that anybody vouches for."""
-        inner = _spnego_inner(octets)
-        if inner is None or inner[:1] != b"\xa0":
+    def _begun(self, octets: Optional[bytes]) -> bytes:
+        """The offer; after octets of a server that speaks first, which tell nothing that anybody vouches for, too."""
+        if octets is not None and (_spnego_inner(octets) or b"")[:1] != b"\xa0":
             raise NotNegotiated(NegotiationRule.UNREAD)
-        return self._offer()
-
-    def _offer(self) -> bytes:
-        first = self._mechanisms[0]
-        progress, token, cause = self._advance(first, None)
-        if progress == Progress.REFUSED:
-            raise NotNegotiated(NegotiationRule.MECHANISM_FAILED, text=_text(NegotiationRule.MECHANISM_FAILED, cause)) from cause
-        self._side.established = progress != Progress.CONTINUES
-        offer = spnego.make_neg_token_init([mechanism.oid for mechanism in self._mechanisms], token or b"")
-        self._list, self._begun = spnego._offer(spnego.token(offer).inner)[1], True
+        progress, token, cause = self._advance(self._mechanisms[0], None)
+        offer, self._list = begin(self._side, self._given(b""), Told(0, progress, token or b"", b"", b""))
+        if self._side.stage == Stage.FAILED:
+            raise self._refusal(b"", cause) from cause
         return offer
 
-    def _replied(self, octets: bytes) -> Optional[bytes]:
-        """After a message of the acceptor's."""
-        if self._mechanism is not None:
-            return self._later(octets)
-        reply = self._reply(octets)
-        choice, name = Choice.ABSENT, reply.supported_mech
-        if name is not None:
-            found = next((mechanism for mechanism in self._mechanisms if _is_named(mechanism, name)), None)
-            choice = Choice.UNKNOWN if found is None else Choice.FIRST if found is self._mechanisms[0] else Choice.OTHER
-            self._mechanism, self._name = found, name
-        return self._exchange(choice, reply.neg_state, reply.response_token, reply.mech_list_mic)
+    def _answered(self, octets: bytes) -> Optional[bytes]:
+        """What is sent after octets of the peer's."""
+        given = self._given(octets)
+        question = take(self._side, given, self._list, octets)
+        listed = self._list if question.list is None else question.list
+        told, cause = self._told(question, listed)
+        lacks_mic, sent = answer(self._side, given, listed, octets, told)
+        if lacks_mic:
+            mic = self._mechanisms[told.mechanism].make_mic(listed)
+            _, sent = answer(self._side, given, listed, octets, told._replace(mic=mic))
+        self._list = listed
+        if self._side.stage == Stage.FAILED:
+            raise self._refusal(sent or b"", cause) from cause
+        return sent
 
-    # The acceptor.
+    def _told(self, question: Question, listed: bytes) -> Tuple[Told, Optional[Exception]]:
+        """What the mechanism makes of what it is asked, and why it refuses, if it does."""
+        if question.rule != NegotiationRule.NONE:
+            return Told(question.mechanism, Progress.RESTS, b"", b"", b""), None
+        mechanism = self._mechanisms[question.mechanism]
+        progress, token, cause = self._advance(mechanism, question.token) if question.steps else (Progress.RESTS, None, None)
+        told = getattr(cause, "error", None) if progress == Progress.REFUSED else token
+        can_verify = question.mic is not None and progress in (Progress.ENDS, Progress.RESTS) and mechanism.established
+        verified = question.mic if can_verify and mechanism.verify_mic(listed, question.mic) else None
+        return Told(question.mechanism, progress, told if isinstance(told, bytes) else b"", verified or b"", b""), cause
 
-    def _bare_step(self, octets: bytes) -> Optional[bytes]:
-        """After a token of a mechanism with no negotiation around it."""
-        assert self._mechanism is not None
-        progress, token, cause = self._advance(self._mechanism, octets)
-        if progress == Progress.REFUSED:
-            raise self._refusal(NegotiationRule.MECHANISM_FAILED, cause) from cause
-        return token
+    def _given(self, octets: bytes) -> Mechanisms:
+        """The mechanisms, and which of them knows the octets as a first token of its own, if no token came before."""
+        asks = self.role == NegotiationRole.ACCEPTOR and self._side.stage == Stage.BEGINS
+        bare = next((mechanism for mechanism in self._mechanisms if mechanism.is_bare(octets)), None) if asks else None
+        return mechanisms_of(self._names, [(mechanism.integrity, mechanism is bare) for mechanism in self._mechanisms])
 
-    def _offered(self, octets: bytes) -> Optional[bytes]:
-        """After the initiator's first octets."""
-        bare = next((mechanism for mechanism in self._mechanisms if mechanism.is_bare(octets)), None)
-        if bare is not None:
-            self._mechanism, self._bare = bare, True
-            return self._bare_step(octets)
-        try:
-            offer, self._list = spnego._offer(_spnego_inner(octets) or b"")
-        except Refused as refused:
-            if refused.status in _NOT_OF_TOKEN:
-                raise
-            raise self._refusal(NegotiationRule.UNREAD) from refused
-        listed = offer.mechanisms or []
-        found = next(((name, mechanism) for name in listed for mechanism in self._mechanisms if _is_named(mechanism, name)), None)
-        choice = Choice.UNKNOWN if listed else Choice.ABSENT
-        if found is not None:
-            self._name, self._mechanism = found
-            choice = Choice.FIRST if self._name == listed[0] else Choice.OTHER
-        return self._exchange(choice, None, offer.mech_token, offer.mech_list_mic)
-
-    # Both.
-
-    def _reply(self, octets: bytes) -> spnego.NegTokenResp:
-        try:
-            reply = spnego.neg_token_resp(octets)
-        except Refused as refused:
-            if refused.status in _NOT_OF_TOKEN:
-                raise
-            raise self._refusal(NegotiationRule.UNREAD) from refused
-        if reply.neg_state is not None and not isinstance(reply.neg_state, spnego.NegState):
-            raise self._refusal(NegotiationRule.UNREAD)
-        return reply
-
-    def _later(self, octets: bytes) -> Optional[bytes]:
-        """After a message that is neither the offer nor the first reply."""
-        reply = self._reply(octets)
-        choice = Choice.ABSENT if reply.supported_mech is None else Choice.UNKNOWN
-        return self._exchange(choice, reply.neg_state, reply.response_token, reply.mech_list_mic)
-
-    def _exchange(self, choice: Choice, state: Optional[int], token: Optional[bytes], mic: Optional[bytes]) -> Optional[bytes]:
-        """What is sent after a message that says this: the library takes the message, the mechanism its token, and the library answers."""
-        mechanism, side = self._mechanism, self._side
-        has_integrity = mechanism is not None and mechanism.integrity
-        take(side, Message(NO_STATE if state is None else state, choice, has_integrity, token is not None, mic is not None))
-        if side.stage == Stage.FAILED:
-            raise self._refusal(side.rule)
-        assert mechanism is not None
-        progress, own, cause = self._advance(mechanism, token) if side.steps else (Progress.ENDS, None, None)
-        seen = Mic.ABSENT if mic is None else Mic.WRONG
-        if mic is not None and progress == Progress.ENDS and mechanism.established and mechanism.verify_mic(self._list, mic):
-            seen = Mic.HOLDS
-        reply = answer(side, progress, seen)
-        if side.stage == Stage.FAILED:
-            raise self._refusal(side.rule, cause) from cause
-        if not reply.sends:
-            return None
-        own_mic = mechanism.make_mic(self._list) if reply.has_mic else b""
-        neg_state = None if reply.state == NO_STATE else reply.state
-        return spnego.make_neg_token_resp(neg_state, self._name if reply.names else b"", own or b"" if reply.has_token else b"", own_mic)
+    def _refusal(self, octets: bytes, cause: Optional[Exception]) -> NotNegotiated:
+        """The refusal by the rule that the side broke, with the octets that answer it."""
+        rule = NegotiationRule(self._side.rule)
+        return NotNegotiated(rule, octets, _text(rule, cause))
 
     @staticmethod
     def _advance(mechanism: Mechanism, token: Optional[bytes]) -> Tuple[Progress, Optional[bytes], Optional[Exception]]:

@@ -3,9 +3,9 @@
 A mechanism is the content of its OBJECT IDENTIFIER, as `KERBEROS` and `SPNEGO` are."""
 
 import enum
-from typing import Dict, Iterable, List, NamedTuple, Optional, Tuple, Union
+from typing import Dict, Iterable, List, NamedTuple, Optional, Union
 
-from krb._items import Form, Item, header_size, items
+from krb._items import Form, Item, items
 from krb._library import IN, SIZE_OUT, U32, Call, Octets, Refused, Status, plain
 
 __all__ = ["KERBEROS", "SPNEGO", "Token", "token", "make_token", "NegState", "NegTokenInit", "NegTokenResp"]
@@ -80,20 +80,15 @@ def _octets(octets: bytes, found: Optional[List[Item]]) -> Optional[bytes]:
     return octets[found[1].place] if found else None
 
 
-def _offer(inner: bytes) -> Tuple[NegTokenInit, bytes]:
-    """A NegTokenInit, and the encoding of mechTypes in it, which is the content of the field's tag; no octets where the field is absent."""
-    fields = _fields(inner, "negTokenInit")
-    listed = fields.get("mechTypes")
-    mechanisms = None if listed is None else [inner[item.place] for item in listed if item.form == Form.LEAF]
-    offer = NegTokenInit(mechanisms, _octets(inner, fields.get("mechToken")), _octets(inner, fields.get("mechListMIC")))
-    return offer, b"" if listed is None else inner[listed[0].place]
-
-
 def neg_token_init(octets: Octets) -> NegTokenInit:
     """The NegTokenInit in the token that begins a negotiation; the mechanism of the token's frame is not compared.
 
     Refused: INVALID, TRUNCATED, UNSUPPORTED, MEMORY."""
-    return _offer(token(octets).inner)[0]
+    inner = token(octets).inner
+    fields = _fields(inner, "negTokenInit")
+    listed = fields.get("mechTypes")
+    mechanisms = None if listed is None else [inner[item.place] for item in listed if item.form == Form.LEAF]
+    return NegTokenInit(mechanisms, _octets(inner, fields.get("mechToken")), _octets(inner, fields.get("mechListMIC")))
 
 
 def neg_token_init_mechanism(octets: Octets, n: int) -> bytes:
@@ -126,11 +121,21 @@ def neg_token_resp(octets: Octets) -> NegTokenResp:
 _make_init = Call("krb_make_neg_token_init", IN, IN, IN, has_room=True)
 
 
+def _element(tag: int, content: bytes) -> bytes:
+    """The element of this tag and content (X.690, 8.1.3 and 10.1)."""
+    size = len(content)
+    digits = size.to_bytes((size.bit_length() + 7) // 8, "big")
+    return bytes([tag]) + (bytes([size]) if size < 128 else bytes([128 + len(digits)]) + digits) + content
+
+
 def _identifier(mechanism: Octets) -> bytes:
-    """The OBJECT IDENTIFIER of this content, with which a token without an inner one ends."""
-    octets = make_token(mechanism, b"")
-    offset, size, _, _ = _token.told(octets)
-    return octets[offset - header_size(size) :]
+    """The OBJECT IDENTIFIER of this content."""
+    return _element(0x06, plain(mechanism))
+
+
+def _sequence(content: bytes) -> bytes:
+    """The SEQUENCE of this content."""
+    return _element(0x30, content)
 
 
 def make_neg_token_init(mechanisms: Iterable[Octets], mech_token: Octets = b"", mech_list_mic: Octets = b"") -> bytes:

@@ -34,7 +34,8 @@ accept     whether a service with this keytab lets in the client of a token of K
            seen. The token may stand in the first message of SPNEGO, as behind `Authorization: Negotiate`. No replay
            cache is asked: a token that was sent before is accepted again
 
-FILE is the file that is read; without it standard input is.
+FILE is the file that is read; without it, and for `-`, standard input is. An option and its value may be one argument,
+as --as=PAC; behind `--` stands FILE alone, however it begins.
 
 options of show:
     --as TYPE               read the octets as this type, and not as the one that they begin as

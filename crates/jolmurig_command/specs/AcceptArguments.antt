@@ -1,10 +1,10 @@
 -- What the arguments of `accept` ask for.
-use Rattle.std.specs.Prelude.{ℕ, Bool, true, ◌||◌, if◌then◌else◌, Option, Some, None, Result, Ok, Err, List, [], ◌∷◌, ◌++◌, codes}
+use Rattle.std.specs.Prelude.{ℕ, Bool, true, false, ◌||◌, if◌then◌else◌, Option, Some, None, Result, Ok, Err, List, [], ◌∷◌, ◌++◌, codes}
 use Rattle.krb_accept.specs.declared.settings.PacCheck.{PacCheck}
 use Rattle.krb_accept.specs.declared.settings.PacCheck.TheVariants as pacs
 use Rattle.jolmurig_command.specs.Accepts.{Accept}
-use Rattle.jolmurig_command.specs.Faults.{and_then, stray}
-use Rattle.jolmurig_command.specs.Words.{file_name, is_help, is_word}
+use Rattle.jolmurig_command.specs.Faults.{and_then, stray, unexpected}
+use Rattle.jolmurig_command.specs.Words.{ends_options, is_help, is_word, name_of, named, named_behind, value_of}
 use Rattle.jolmurig_command.specs.declared.fault.Fault.{Fault}
 use Rattle.jolmurig_command.specs.declared.fault.Fault.TheVariants as fault
 use Rattle.jolmurig_command.specs.declared.command.Command.{Command}
@@ -17,13 +17,16 @@ once option (Some other) next = Err (fault.Twice option)
 
 -- ---- options without a value, and the file
 
--- one file at most
-abbrev pub accept_file : List ℕ → Accept → Result Accept Fault
-accept_file name a = of (file_name name) a.file
+-- one file at most: of what an argument names, or else what is wrong with it
+abbrev pub accept_input : Option (Option (List ℕ)) → Fault → Accept → Result Accept Fault
+accept_input named wrong a = of named a.is_named
   where
-    of : Option (List ℕ) → Option (List ℕ) → Result Accept Fault
-    of (Some given) None = Ok (record a { file = Some given })
-    of given other = Err (stray name)
+    of : Option (Option (List ℕ)) → Bool → Result Accept Fault
+    of (Some file) false = Ok (record a { file = file; is_named = true })
+    of found is_named = Err wrong
+
+abbrev pub accept_file : List ℕ → Accept → Result Accept Fault
+accept_file argument a = accept_input (named argument) (stray argument) a
 
 abbrev pub accept_flag : List ℕ → Accept → Result Accept Fault
 accept_flag w a =
@@ -76,12 +79,26 @@ accept_asked a = by_keytab a.keytab
     by_keytab None = Err fault.NoKeytab
     by_keytab (Some name) = Ok (command.Accept a)
 
+-- what is asked for with what stands behind the end of the options: one file at most
+abbrev pub accept_end : Accept → List (List ℕ) → Result Command Fault
+accept_end a [] = accept_asked a
+accept_end a (w ∷ []) = and_then accept_asked (accept_input (named_behind w) (unexpected w) a)
+accept_end a (w ∷ other ∷ rest) = and_then (λ next. Err (unexpected other)) (accept_input (named_behind w) (unexpected w) a)
+
+-- an option and its value in one argument, an option without a value, or a file
+abbrev pub accept_one : List ℕ → Accept → Result Accept Fault
+accept_one w a = if accept_valued (name_of w) then accept_value (name_of w) (value_of w) a else accept_flag w a
+
 -- what options and the name of a file ask for, behind those that asked for this; as for `show`
 abbrev pub accept_options : Accept → List (List ℕ) → Result Command Fault
 accept_options a [] = accept_asked a
 accept_options a (w ∷ []) =
-    if is_help w then Ok command.Help else if accept_valued w then Err (fault.NoValue w) else and_then (λ next. accept_options next []) (accept_flag w a)
+    if is_help w then Ok command.Help
+    else if ends_options w then accept_end a []
+    else if accept_valued w then Err (fault.NoValue w)
+    else and_then (λ next. accept_options next []) (accept_one w a)
 accept_options a (w ∷ value ∷ rest) =
     if is_help w then Ok command.Help
+    else if ends_options w then accept_end a (value ∷ rest)
     else if accept_valued w then and_then (λ next. accept_options next rest) (accept_value w value a)
-    else and_then (λ next. accept_options next (value ∷ rest)) (accept_flag w a)
+    else and_then (λ next. accept_options next (value ∷ rest)) (accept_one w a)

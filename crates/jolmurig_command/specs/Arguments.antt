@@ -2,9 +2,9 @@
 use Rattle.std.specs.Prelude.{ℕ, Bool, true, false, ◌||◌, if◌then◌else◌, Option, Some, None, Result, Ok, Err, List, [], ◌∷◌, ◌++◌, codes}
 use Rattle.jolmurig_command.specs.AcceptArguments.{accept_options}
 use Rattle.jolmurig_command.specs.Accepts.{no_option}
-use Rattle.jolmurig_command.specs.Faults.{and_then, stray, unknown_command}
+use Rattle.jolmurig_command.specs.Faults.{and_then, stray, unexpected, unknown_command}
 use Rattle.jolmurig_command.specs.Shows.{Show, nothing_asked}
-use Rattle.jolmurig_command.specs.Words.{file_name, is_help, is_word}
+use Rattle.jolmurig_command.specs.Words.{ends_options, is_help, is_word, name_of, named, named_behind, value_of}
 use Rattle.jolmurig_command.specs.declared.fault.Fault.{Fault}
 use Rattle.jolmurig_command.specs.declared.fault.Fault.TheVariants as fault
 use Rattle.jolmurig_command.specs.declared.command.Command.{Command}
@@ -50,13 +50,16 @@ with_keys_shown shown s = Ok (record s { shows_keys = shown })
 abbrev pub with_all_tried : Show → Result Show Fault
 with_all_tried s = Ok (record s { tries_all = true })
 
--- one file at most
-abbrev pub with_file : List ℕ → Show → Result Show Fault
-with_file name s = of (file_name name) s.file
+-- one file at most: of what an argument names, or else what is wrong with it
+abbrev pub with_input : Option (Option (List ℕ)) → Fault → Show → Result Show Fault
+with_input named wrong s = of named s.is_named
   where
-    of : Option (List ℕ) → Option (List ℕ) → Result Show Fault
-    of (Some given) None = Ok (record s { file = Some given })
-    of given other = Err (stray name)
+    of : Option (Option (List ℕ)) → Bool → Result Show Fault
+    of (Some file) false = Ok (record s { file = file; is_named = true })
+    of found is_named = Err wrong
+
+abbrev pub with_file : List ℕ → Show → Result Show Fault
+with_file argument s = with_input (named argument) (stray argument) s
 
 abbrev pub with_flag : List ℕ → Show → Result Show Fault
 with_flag w s =
@@ -113,42 +116,66 @@ with_value option value s =
 
 -- ---- the whole
 
+-- what is asked for with what stands behind the end of the options: one file at most
+abbrev pub behind_end : Show → List (List ℕ) → Result Command Fault
+behind_end s [] = Ok (command.Show s)
+behind_end s (w ∷ []) = and_then (λ next. Ok (command.Show next)) (with_input (named_behind w) (unexpected w) s)
+behind_end s (w ∷ other ∷ rest) = and_then (λ next. Err (unexpected other)) (with_input (named_behind w) (unexpected w) s)
+
+-- an option and its value in one argument, an option without a value, or a file
+abbrev pub with_one : List ℕ → Show → Result Show Fault
+with_one w s = if is_valued (name_of w) then with_value (name_of w) (value_of w) s else with_flag w s
+
 -- what options and the name of a file ask for, behind those that asked for this; or the first thing that is wrong. Help is asked for by the first of
--- its options that no refused option stands before, and that is no option's value.
+-- its options that no refused option stands before, and that is no option's value and no file.
 abbrev pub options_of : Show → List (List ℕ) → Result Command Fault
 options_of s [] = Ok (command.Show s)
 options_of s (w ∷ []) =
-    if is_help w then Ok command.Help else if is_valued w then Err (fault.NoValue w) else and_then (λ next. options_of next []) (with_flag w s)
+    if is_help w then Ok command.Help
+    else if ends_options w then behind_end s []
+    else if is_valued w then Err (fault.NoValue w)
+    else and_then (λ next. options_of next []) (with_one w s)
 options_of s (w ∷ value ∷ rest) =
     if is_help w then Ok command.Help
+    else if ends_options w then behind_end s (value ∷ rest)
     else if is_valued w then and_then (λ next. options_of next rest) (with_value w value s)
-    else and_then (λ next. options_of next (value ∷ rest)) (with_flag w s)
+    else and_then (λ next. options_of next (value ∷ rest)) (with_one w s)
 
 -- whether help is asked for first
 abbrev pub begins_with_help : List (List ℕ) → Bool
 begins_with_help [] = false
 begins_with_help (w ∷ rest) = is_help w
 
+-- of what one argument names, or else what is wrong with it; or what is wrong with the first of those behind it
+abbrev pub only : Option (Option (List ℕ)) → Fault → (List ℕ → Fault) → List (List ℕ) → Result (Option (List ℕ)) Fault
+only None wrong other rest = Err wrong
+only (Some file) wrong other [] = Ok file
+only (Some file) wrong other (next ∷ rest) = Err (other next)
+
+-- the file behind the end of the options, or none: standard input
+abbrev pub last_operand : List (List ℕ) → Result (Option (List ℕ)) Fault
+last_operand [] = Ok None
+last_operand (w ∷ rest) = only (named_behind w) (unexpected w) unexpected rest
+
 -- the file that is named, or none: standard input
 abbrev pub operand_of : List (List ℕ) → Result (Option (List ℕ)) Fault
 operand_of [] = Ok None
-operand_of (w ∷ rest) = of (file_name w) rest
-  where
-    of : Option (List ℕ) → List (List ℕ) → Result (Option (List ℕ)) Fault
-    of None others = Err (stray w)
-    of (Some name) [] = Ok (Some name)
-    of (Some name) (other ∷ others) = Err (stray other)
+operand_of (w ∷ rest) = if ends_options w then last_operand rest else only (named w) (stray w) stray rest
 
 -- what a command without options asks for
 abbrev pub of_operand : (Option (List ℕ) → Command) → List (List ℕ) → Result Command Fault
 of_operand made words = if begins_with_help words then Ok command.Help else and_then (λ file. Ok (made file)) (operand_of words)
 
+-- `check --as=TYPE` in one argument, with the file behind it
+abbrev pub check_by : List ℕ → List (List ℕ) → Result Command Fault
+check_by w rest = if is_word (name_of w) (codes "--as") then of_operand (command.Check (value_of w)) rest else Err fault.NoType
+
 -- `check --as TYPE`, with the file
 abbrev pub check_of : List (List ℕ) → Result Command Fault
 check_of [] = Err fault.NoType
-check_of (w ∷ []) = if is_help w then Ok command.Help else if is_word w (codes "--as") then Err (fault.NoValue w) else Err fault.NoType
+check_of (w ∷ []) = if is_help w then Ok command.Help else if is_word w (codes "--as") then Err (fault.NoValue w) else check_by w []
 check_of (w ∷ name ∷ rest) =
-    if is_help w then Ok command.Help else if is_word w (codes "--as") then of_operand (command.Check name) rest else Err fault.NoType
+    if is_help w then Ok command.Help else if is_word w (codes "--as") then of_operand (command.Check name) rest else check_by w (name ∷ rest)
 
 -- the format of this name
 abbrev pub format_of : List ℕ → Option Format

@@ -8,6 +8,7 @@ pub record Source : Type 0 where
   pub kind : SourceKind
   pub text : List ℕ
 
+-- `is_named` says whether an argument stands for what is read; of standard input there is no `file`
 pub record Show : Type 0 where
   pub type_name : Option (List ℕ)
   pub is_tree : Bool
@@ -18,7 +19,19 @@ pub record Show : Type 0 where
   pub sources : List Source
   pub password_files : List (List ℕ)
   pub file : Option (List ℕ)
+  pub is_named : Bool
 
 -- without any option
 abbrev pub nothing_asked : Show
-nothing_asked = record { type_name = None; is_tree = false; output = None; shows_places = false; shows_keys = false; tries_all = false; sources = []; password_files = []; file = None }
+nothing_asked = record {
+  type_name = None;
+  is_tree = false;
+  output = None;
+  shows_places = false;
+  shows_keys = false;
+  tries_all = false;
+  sources = [];
+  password_files = [];
+  file = None;
+  is_named = false;
+}

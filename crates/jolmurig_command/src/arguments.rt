@@ -1,20 +1,20 @@
 //! The command that arguments are.
 
 ghost use Rattle.std.specs.Prelude.{◌≡◌, ◌≤◌, ◌∷◌, false, length, map, Ok, Err, IfOk, MatchResult};
-ghost use Rattle.std.specs.Option.{option_copied};
 ghost use Rattle.std.specs.String.{string_bytes};
-ghost use Rattle.jolmurig_command.specs.Arguments.{asked_by, begins_with_help, check_of, command_of, conversion_of, direction_of, format_of, is_valued};
-ghost use Rattle.jolmurig_command.specs.Arguments.{of_operand, operand_of, options_of, proxy_of, source_kind, with_file, with_flag, with_output, with_source};
-ghost use Rattle.jolmurig_command.specs.Arguments.{output_fault, with_password_file, with_tree, with_type, with_value};
+ghost use Rattle.jolmurig_command.specs.Arguments.{asked_by, begins_with_help, behind_end, check_by, check_of, command_of, conversion_of, direction_of};
+ghost use Rattle.jolmurig_command.specs.Arguments.{format_of, is_valued, last_operand, of_operand, operand_of, options_of, proxy_of, source_kind};
+ghost use Rattle.jolmurig_command.specs.Arguments.{output_fault, with_file, with_flag, with_input, with_one, with_output, with_password_file, with_source};
+ghost use Rattle.jolmurig_command.specs.Arguments.{with_tree, with_type, with_value};
 ghost use Rattle.jolmurig_command.specs.Shows.{nothing_asked};
-ghost use Rattle.jolmurig_command.specs.Words.{file_name, is_help, is_word};
+ghost use Rattle.jolmurig_command.specs.Words.{ends_options, input, is_help, is_word, name_of, named, named_behind, value_of};
 ghost use Rattle.jolmurig_command.specs.declared.command.Command.TheVariants as command;
 ghost use Rattle.jolmurig_command.specs.declared.fault.Fault.TheVariants as fault;
 
 use crate::command::{
     Command, Direction, FileName, Format, Operand, Output, Show, Source, SourceKind, TypeName,
 };
-use crate::fault::{Fault, Word, stray, unknown_command};
+use crate::fault::{Fault, Word, is_option, stray, unexpected, unknown_command};
 use crate::parse_accept::accept_of;
 use std::alloc::{AllocError, Global};
 
@@ -72,31 +72,94 @@ fn with_output<'a>(form: Output, show: Show<'a>) -> Result<Show<'a>, Fault<'a>>
     }
 }
 
-/// The name of a file, which does not begin with `-`.
-pub(crate) fn file_name(argument: &str) -> Option<&str>
-    ensures { option_copied result ≡ file_name argument.now }
+/// Whether options end at an argument.
+pub(crate) fn ends_options(argument: &str) -> bool
+    ensures { result ≡ ends_options argument.now }
 {
-    let (first, _rest) = argument.as_bytes().split_first()?;
-    if *first == b'-' {
+    is_word(argument, "--")
+}
+
+/// What stands before the first `=` of an argument, and behind it.
+pub(crate) struct Joined<'a> {
+    /// The name of an option, if the argument is one with its value.
+    pub name: &'a str,
+    /// Its value; empty where there is no `=`.
+    pub value: &'a str,
+}
+
+/// The two parts of an argument.
+pub(crate) fn split(argument: &str) -> Joined<'_>
+    ensures name { result.name.now ≡ name_of argument.now }
+    ensures value { result.value.now ≡ value_of argument.now }
+{
+    match argument.split_once('=') {
+        Some((name, value)) => Joined { name, value },
+        None => Joined {
+            name: argument,
+            value: "",
+        },
+    }
+}
+
+/// What is read by an argument.
+fn input(argument: &str) -> Operand<'_>
+    ensures { result ≡ input argument.now }
+{
+    if is_word(argument, "-") {
+        Operand { file: None }
+    } else {
+        Operand {
+            file: Some(argument),
+        }
+    }
+}
+
+/// What is read by an argument that is no option.
+pub(crate) fn named(argument: &str) -> Option<Operand<'_>>
+    ensures { result ≡ named argument.now }
+{
+    if argument.is_empty() || is_option(argument) {
         return None;
     }
-    Some(argument)
+    Some(input(argument))
+}
+
+/// What is read by an argument behind the end of the options.
+pub(crate) fn named_behind(argument: &str) -> Option<Operand<'_>>
+    ensures { result ≡ named_behind argument.now }
+{
+    if argument.is_empty() {
+        return None;
+    }
+    Some(input(argument))
+}
+
+/// Of what an argument names, where none did before; or else what is wrong with it.
+fn with_input<'a>(
+    named: Option<Operand<'a>>,
+    wrong: Fault<'a>,
+    show: Show<'a>,
+) -> Result<Show<'a>, Fault<'a>>
+    ensures { result ≡ with_input named.entry wrong.entry show.entry }
+{
+    let Some(operand) = named else {
+        return Err(wrong);
+    };
+    if show.is_named {
+        return Err(wrong);
+    }
+    Ok(Show {
+        file: operand.file,
+        is_named: true,
+        ..show
+    })
 }
 
 /// Of this file, where none was asked for.
 fn with_file<'a>(argument: &'a str, show: Show<'a>) -> Result<Show<'a>, Fault<'a>>
     ensures { result ≡ with_file argument.now show.entry }
 {
-    let Some(name) = file_name(argument) else {
-        return Err(stray(argument));
-    };
-    if show.file.is_some() {
-        return Err(stray(argument));
-    }
-    Ok(Show {
-        file: Some(name),
-        ..show
-    })
+    with_input(named(argument), stray(argument), show)
 }
 
 /// With an option that has no value, or a file.
@@ -181,6 +244,7 @@ fn with_source<'a>(kind: SourceKind, text: &'a str, show: Show<'a>) -> Result<Sh
         sources,
         password_files: show.password_files,
         file: show.file,
+        is_named: show.is_named,
     })
 }
 
@@ -200,6 +264,7 @@ fn with_password_file<'a>(name: &'a str, show: Show<'a>) -> Result<Show<'a>, All
         sources: show.sources,
         password_files,
         file: show.file,
+        is_named: show.is_named,
     })
 }
 
@@ -241,20 +306,32 @@ struct Step<'a> {
     behind: &'a [String],
 }
 
+/// With an option and its value in one argument, an option without a value, or a file.
+fn with_one<'a>(word: &'a str, show: Show<'a>) -> Result<Result<Show<'a>, Fault<'a>>, AllocError>
+    ensures { IfOk result (λ found. found ≡ with_one word.now show.entry) }
+{
+    let Joined { name, value } = split(word);
+    if is_valued(name) {
+        return with_value(name, value, show);
+    }
+    Ok(with_flag(word, show))
+}
+
 /// With the option or the file that the first argument is; `rest` stands behind it.
 fn with_first<'a>(
     word: &'a str,
     rest: &'a [String],
     show: Show<'a>,
 ) -> Result<Result<Step<'a>, Fault<'a>>, AllocError>
-    requires { is_help word.now ≡ false }
+    requires no_help { is_help word.now ≡ false }
+    requires no_end { ends_options word.now ≡ false }
     ensures { IfOk result (λ found. MatchResult found
         (λ step. (options_of show.entry (word.now ∷ map string_bytes rest.now) ≡ options_of step.show (map string_bytes step.behind.now))
         × (length step.behind.now ≤ length rest.now))
         (λ fault. options_of show.entry (word.now ∷ map string_bytes rest.now) ≡ Err fault)) }
 {
     if !is_valued(word) {
-        return match with_flag(word, show) {
+        return match with_one(word, show)? {
             Ok(show) => Ok(Ok(Step { show, behind: rest })),
             Err(fault) => Ok(Err(fault)),
         };
@@ -265,6 +342,24 @@ fn with_first<'a>(
     match with_value(word, value.as_str(), show)? {
         Ok(show) => Ok(Ok(Step { show, behind })),
         Err(fault) => Ok(Err(fault)),
+    }
+}
+
+/// What is asked for with what stands behind the end of the options.
+fn behind_end<'a>(show: Show<'a>, words: &'a [String]) -> Result<Command<'a>, Fault<'a>>
+    ensures { result ≡ behind_end show.entry (map string_bytes words.now) }
+{
+    let Some((word, rest)) = words.split_first() else {
+        return Ok(Command::Show(show));
+    };
+    let argument = word.as_str();
+    match (
+        with_input(named_behind(argument), unexpected(argument), show),
+        rest.first(),
+    ) {
+        (Ok(asked), None) => Ok(Command::Show(asked)),
+        (Ok(_), Some(other)) => Err(unexpected(other.as_str())),
+        (Err(fault), _) => Err(fault),
     }
 }
 
@@ -280,6 +375,9 @@ fn with_options<'a>(
     'options: while let Some((word, behind)) = rest.split_first() {
         if is_help(word.as_str()) {
             return Ok(Ok(Command::Help));
+        }
+        if ends_options(word.as_str()) {
+            return Ok(behind_end(asked, behind));
         }
         match with_first(word.as_str(), behind, asked)? {
             Ok(step) => {
@@ -306,6 +404,7 @@ fn nothing_asked<'a>(alloc: Global) -> Show<'a>
         sources: Vec::new(alloc),
         password_files: Vec::new(alloc),
         file: None,
+        is_named: false,
     }
 }
 
@@ -319,6 +418,22 @@ fn begins_with_help(words: &[String]) -> bool
     }
 }
 
+/// The file that arguments behind the end of the options name, or standard input where there is none.
+fn last_operand(words: &[String]) -> Result<Operand<'_>, Fault<'_>>
+    ensures { result ≡ last_operand (map string_bytes words.now) }
+{
+    let Some((word, rest)) = words.split_first() else {
+        return Ok(Operand { file: None });
+    };
+    let Some(operand) = named_behind(word.as_str()) else {
+        return Err(unexpected(word.as_str()));
+    };
+    match rest.first() {
+        None => Ok(operand),
+        Some(other) => Err(unexpected(other.as_str())),
+    }
+}
+
 /// The file that the arguments of a command without options name, or standard input where there is none.
 fn operand_of(words: &[String]) -> Result<Operand<'_>, Fault<'_>>
     ensures { result ≡ operand_of (map string_bytes words.now) }
@@ -326,11 +441,14 @@ fn operand_of(words: &[String]) -> Result<Operand<'_>, Fault<'_>>
     let Some((word, rest)) = words.split_first() else {
         return Ok(Operand { file: None });
     };
-    let Some(name) = file_name(word.as_str()) else {
+    if ends_options(word.as_str()) {
+        return last_operand(rest);
+    }
+    let Some(operand) = named(word.as_str()) else {
         return Err(stray(word.as_str()));
     };
     match rest.first() {
-        None => Ok(Operand { file: Some(name) }),
+        None => Ok(operand),
         Some(other) => Err(stray(other.as_str())),
     }
 }
@@ -433,6 +551,17 @@ fn check_as<'a>(name: &'a str, words: &'a [String]) -> Result<Command<'a>, Fault
     Ok(Command::Check(TypeName { text: name }, operand_of(words)?))
 }
 
+/// What the arguments of `check` ask for, the first of which is an option with its value, or wrong.
+fn check_by<'a>(word: &'a str, rest: &'a [String]) -> Result<Command<'a>, Fault<'a>>
+    ensures { result ≡ check_by word.now (map string_bytes rest.now) }
+{
+    let Joined { name, value } = split(word);
+    if !is_word(name, "--as") {
+        return Err(Fault::NoType);
+    }
+    check_as(value, rest)
+}
+
 /// What the arguments of `check` ask for.
 fn check_of(words: &[String]) -> Result<Command<'_>, Fault<'_>>
     ensures { result ≡ check_of (map string_bytes words.now) }
@@ -444,7 +573,7 @@ fn check_of(words: &[String]) -> Result<Command<'_>, Fault<'_>>
         return Ok(Command::Help);
     }
     if !is_word(word.as_str(), "--as") {
-        return Err(Fault::NoType);
+        return check_by(word.as_str(), rest);
     }
     match rest.split_first() {
         Some((name, behind)) => check_as(name.as_str(), behind),

@@ -82,6 +82,8 @@ pub struct Show<'a> {
     pub password_files: Vec<FileName<'a>>,
     /// The name of the file that is read; standard input where there is none.
     pub file: Option<&'a str>,
+    /// Whether an argument stands for what is read: the file, or `-`.
+    pub is_named: bool,
 }
 
 impl<'a> Model for Show<'a> {
@@ -100,6 +102,7 @@ impl<'a> Model for Show<'a> {
       sources = s.sources.items;
       password_files = s.password_files.items;
       file = option_copied s.file;
+      is_named = s.is_named;
     } };
 }
 
@@ -190,6 +193,8 @@ pub struct Accept<'a> {
     pub takes_other: bool,
     /// The name of the file that is read; standard input where there is none.
     pub file: Option<&'a str>,
+    /// Whether an argument stands for what is read: the file, or `-`.
+    pub is_named: bool,
 }
 
 impl<'a> Model for Accept<'a> {
@@ -209,6 +214,7 @@ impl<'a> Model for Accept<'a> {
       is_bare = a.is_bare;
       takes_other = a.takes_other;
       file = option_copied a.file;
+      is_named = a.is_named;
     } };
 }
 

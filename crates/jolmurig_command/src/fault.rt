@@ -1,7 +1,8 @@
 //! What is wrong with arguments.
 
 ghost use Rattle.std.specs.Prelude.{◌≡◌};
-ghost use Rattle.jolmurig_command.specs.Faults.{is_option, stray, unknown_command};
+ghost use Rattle.jolmurig_command.specs.Faults.{stray, unexpected, unknown_command};
+ghost use Rattle.jolmurig_command.specs.Words.{is_option};
 
 use std::marker::Model;
 
@@ -27,7 +28,7 @@ pub enum Fault<'a> {
     NoCommand,
     /// The first argument is the name of no command.
     UnknownCommand(Word<'a>),
-    /// An argument begins with `-` and is no option that may stand there.
+    /// An argument begins with `-`, is not that alone, and is no option that may stand there.
     UnknownOption(Word<'a>),
     /// An argument is empty where a command or a file has its name.
     Empty,
@@ -53,12 +54,12 @@ pub enum Fault<'a> {
     OtherPac,
 }
 
-/// Whether an argument begins with `-`.
-fn is_option(argument: &str) -> bool
+/// Whether an argument begins with `-` and is not that alone.
+pub(crate) fn is_option(argument: &str) -> bool
     ensures { result ≡ is_option argument.now }
 {
-    match argument.as_bytes().first() {
-        Some(first) => *first == b'-',
+    match argument.as_bytes().split_first() {
+        Some((first, rest)) => *first == b'-' && !rest.is_empty(),
         None => false,
     }
 }
@@ -86,5 +87,16 @@ pub(crate) fn unknown_command(argument: &str) -> Fault<'_>
         Fault::UnknownOption(Word { text: argument })
     } else {
         Fault::UnknownCommand(Word { text: argument })
+    }
+}
+
+/// What is wrong with an argument behind the end of the options, where no argument, or that of a file, may stand.
+pub(crate) fn unexpected(argument: &str) -> Fault<'_>
+    ensures { result ≡ unexpected argument.now }
+{
+    if argument.is_empty() {
+        Fault::Empty
+    } else {
+        Fault::Unexpected(Word { text: argument })
     }
 }

@@ -2,30 +2,43 @@
 
 ghost use Rattle.std.specs.Prelude.{◌≡◌, ◌≤◌, ◌∷◌, false, codes, length, map, Some, Ok, Err, IfOk, MatchResult};
 ghost use Rattle.std.specs.String.{string_bytes};
-ghost use Rattle.jolmurig_command.specs.AcceptArguments.{accept_asked, accept_file, accept_flag, accept_options, accept_pac, accept_value, accept_valued, once, pac_of, with_realm, with_server};
+ghost use Rattle.jolmurig_command.specs.AcceptArguments.{accept_asked, accept_end, accept_file, accept_flag, accept_input, accept_one, accept_options};
+ghost use Rattle.jolmurig_command.specs.AcceptArguments.{accept_pac, accept_value, accept_valued, once, pac_of, with_realm, with_server};
 ghost use Rattle.jolmurig_command.specs.Accepts.{no_option};
-ghost use Rattle.jolmurig_command.specs.Words.{is_help};
+ghost use Rattle.jolmurig_command.specs.Words.{ends_options, is_help};
 
-use crate::arguments::{file_name, is_help, is_word};
-use crate::command::{Accept, Command, NameText};
-use crate::fault::{Fault, Word, stray};
+use crate::arguments::{Joined, ends_options, is_help, is_word, named, named_behind, split};
+use crate::command::{Accept, Command, NameText, Operand};
+use crate::fault::{Fault, Word, stray, unexpected};
 use krb_accept::PacCheck;
 use std::alloc::{AllocError, Global};
+
+/// Of what an argument names, where none did before; or else what is wrong with it.
+fn accept_input<'a>(
+    named: Option<Operand<'a>>,
+    wrong: Fault<'a>,
+    asked: Accept<'a>,
+) -> Result<Accept<'a>, Fault<'a>>
+    ensures { result ≡ accept_input named.entry wrong.entry asked.entry }
+{
+    let Some(operand) = named else {
+        return Err(wrong);
+    };
+    if asked.is_named {
+        return Err(wrong);
+    }
+    Ok(Accept {
+        file: operand.file,
+        is_named: true,
+        ..asked
+    })
+}
 
 /// Of this file, where none was asked for.
 fn accept_file<'a>(argument: &'a str, asked: Accept<'a>) -> Result<Accept<'a>, Fault<'a>>
     ensures { result ≡ accept_file argument.now asked.entry }
 {
-    let Some(name) = file_name(argument) else {
-        return Err(stray(argument));
-    };
-    if asked.file.is_some() {
-        return Err(stray(argument));
-    }
-    Ok(Accept {
-        file: Some(name),
-        ..asked
-    })
+    accept_input(named(argument), stray(argument), asked)
 }
 
 /// With an option that has no value, or a file.
@@ -145,6 +158,7 @@ fn with_server<'a>(name: &'a str, asked: Accept<'a>) -> Result<Accept<'a>, Alloc
         is_bare: asked.is_bare,
         takes_other: asked.takes_other,
         file: asked.file,
+        is_named: asked.is_named,
     })
 }
 
@@ -165,6 +179,7 @@ fn with_realm<'a>(name: &'a str, asked: Accept<'a>) -> Result<Accept<'a>, AllocE
         is_bare: asked.is_bare,
         takes_other: asked.takes_other,
         file: asked.file,
+        is_named: asked.is_named,
     })
 }
 
@@ -215,20 +230,35 @@ struct Step<'a> {
     behind: &'a [String],
 }
 
+/// With an option and its value in one argument, an option without a value, or a file.
+fn accept_one<'a>(
+    word: &'a str,
+    asked: Accept<'a>,
+) -> Result<Result<Accept<'a>, Fault<'a>>, AllocError>
+    ensures { IfOk result (λ found. found ≡ accept_one word.now asked.entry) }
+{
+    let Joined { name, value } = split(word);
+    if accept_valued(name) {
+        return accept_value(name, value, asked);
+    }
+    Ok(accept_flag(word, asked))
+}
+
 /// With the option or the file that the first argument is; `rest` stands behind it.
 fn accept_first<'a>(
     word: &'a str,
     rest: &'a [String],
     asked: Accept<'a>,
 ) -> Result<Result<Step<'a>, Fault<'a>>, AllocError>
-    requires { is_help word.now ≡ false }
+    requires no_help { is_help word.now ≡ false }
+    requires no_end { ends_options word.now ≡ false }
     ensures { IfOk result (λ found. MatchResult found
         (λ step. (accept_options asked.entry (word.now ∷ map string_bytes rest.now) ≡ accept_options step.asked (map string_bytes step.behind.now))
         × (length step.behind.now ≤ length rest.now))
         (λ fault. accept_options asked.entry (word.now ∷ map string_bytes rest.now) ≡ Err fault)) }
 {
     if !accept_valued(word) {
-        return match accept_flag(word, asked) {
+        return match accept_one(word, asked)? {
             Ok(asked) => Ok(Ok(Step {
                 asked,
                 behind: rest,
@@ -255,6 +285,24 @@ fn accept_asked<'a>(asked: Accept<'a>) -> Result<Command<'a>, Fault<'a>>
     Ok(Command::Accept(asked))
 }
 
+/// What is asked for with what stands behind the end of the options.
+fn accept_end<'a>(asked: Accept<'a>, words: &'a [String]) -> Result<Command<'a>, Fault<'a>>
+    ensures { result ≡ accept_end asked.entry (map string_bytes words.now) }
+{
+    let Some((word, rest)) = words.split_first() else {
+        return accept_asked(asked);
+    };
+    let argument = word.as_str();
+    match (
+        accept_input(named_behind(argument), unexpected(argument), asked),
+        rest.first(),
+    ) {
+        (Ok(next), None) => accept_asked(next),
+        (Ok(_), Some(other)) => Err(unexpected(other.as_str())),
+        (Err(fault), _) => Err(fault),
+    }
+}
+
 /// What options ask for, behind those that asked for this.
 fn accept_options<'a>(
     asked: Accept<'a>,
@@ -267,6 +315,9 @@ fn accept_options<'a>(
     'options: while let Some((word, behind)) = rest.split_first() {
         if is_help(word.as_str()) {
             return Ok(Ok(Command::Help));
+        }
+        if ends_options(word.as_str()) {
+            return Ok(accept_end(so_far, behind));
         }
         match accept_first(word.as_str(), behind, so_far)? {
             Ok(step) => {
@@ -297,6 +348,7 @@ pub(crate) fn accept_of<'a>(
         is_bare: false,
         takes_other: false,
         file: None,
+        is_named: false,
     };
     accept_options(asked, words)
 }

@@ -1,18 +1,16 @@
 -- Octets that are the encoding of a type's value have items by its row: only memory may be wanting.
-use Rattle.std.proofs.Common.{◌≡◌, ℕ, List, [], Option, Some, None, refl, sym, ap, subst, ◌∙◌, inl, inr, arith}
+use Rattle.std.proofs.Common.{◌≡◌, ℕ, List, [], Some, None, sym, subst, ◌∙◌, inl, inr, arith}
 use Rattle.std.proofs.lemmas.Grind.{common_steps}
 use Rattle.krb_der_core.specs.declared.der.DerEncode.{Ghosts as EncodingOf}
 use Rattle.krb_schema.specs.declared.item.Fault.{Fault}
 use Rattle.krb_schema.specs.declared.item.Fault.TheVariants as faults
 use Rattle.krb_schema.specs.declared.shape.Name.{Name}
 use Rattle.krb_schema.specs.declared.shape.Schema.{Schema}
-use Rattle.krb_schema.specs.Named.{IsKerberos, row_in}
 use Rattle.krb_schema.specs.Shapes.{IsElement, IsNone}
-use Rattle.krb_schema.specs.Types.{types}
-use Rattle.krb_show_row_laws.specs.Ties.{HasItsRow, IsEncoding, IsRowOf}
+use Rattle.krb_show_row_laws.specs.Ties.{HasItsRow, IsEncoding}
 use Rattle.krb_c_calls.specs.Items.{IsFaultOf, IsType, RefusesItems, fault_status}
 
-same_row : (a b : ℕ) → Some a ≡ Some b → a ≡ b
+pub same_row : (a b : ℕ) → Some a ≡ Some b → a ≡ b
 same_row a b e = grind (arith, common_steps)
 
 no_row : (a : ℕ) → None ≡ Some a → ⊥

@@ -2,3 +2,4 @@ mod RequestItems
 mod EncodingItems
 mod RequestEncodings
 mod RequestStatuses
+mod RowChecks

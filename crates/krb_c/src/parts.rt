@@ -14,12 +14,13 @@ use krb_messages::messages::{
     ApRep, ApReq, AsRep, AsReq, EncAsRepPart, EncTgsRepPart, KrbCred, KrbError, KrbPriv, TgsRep,
     TgsReq,
 };
+use krb_show_row_laws::laws::{rows_of_data_types, rows_of_messages, rows_of_parts};
 use krb_types::data_types::Ticket;
 use std::alloc::Global;
 
-/// `krb_check` of `krb.h`: whether the octets are the one DER encoding of a message that has this application tag (RFC 4120, 5.10).
+/// `krb_check` of `krb.h`: whether the octets are the one DER encoding of a message that has this application tag (RFC 4120, 5.10), by the row of its type.
 #[unsafe(no_mangle)]
-pub extern "C" fn krb_check(alloc: Global, number: i32, octets: &[u8]) -> u32
+pub extern "C" fn krb_check(number: i32, octets: &[u8]) -> u32
     ensures { IsChecked (record {
       ticket = IsReading ⟦<Ticket as DerEncode>⟧;
       authenticator = IsReading ⟦<Authenticator as DerEncode>⟧;
@@ -40,7 +41,10 @@ pub extern "C" fn krb_check(alloc: Global, number: i32, octets: &[u8]) -> u32
       krb_error = IsReading ⟦<KrbError as DerEncode>⟧;
     }) number octets.now result }
 {
-    check(alloc, number, octets)
+    rows_of_data_types();
+    rows_of_parts();
+    rows_of_messages();
+    check(number, octets)
 }
 
 /// `krb_seal_ticket_part` of `krb.h`: the EncTicketPart of a ticket (RFC 4120, 5.3), sealed.

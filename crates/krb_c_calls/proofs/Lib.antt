@@ -1,8 +1,3 @@
-mod Reading
-mod Engines
-mod Later
-mod Offer
-mod FirstReply
 pub mod Buffers
 pub mod Elements
 pub mod FrameLengths
@@ -18,3 +13,4 @@ mod KeptAgain
 mod KeptSums
 mod Lengths
 mod Refused
+pub mod KindRows

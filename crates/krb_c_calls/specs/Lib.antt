@@ -1,7 +1,3 @@
-pub mod EngineNumbers
-pub mod Taking
-pub mod Answering
-pub mod Engines
 pub mod Making
 pub mod Negotiation
 pub mod Pac
@@ -28,6 +24,7 @@ pub mod ProxyStatuses
 pub mod Replies
 pub mod Posted
 pub mod Requests
+pub mod RowReadings
 pub mod Shown
 pub mod Sizes
 pub mod Statuses

@@ -1,5 +1,5 @@
 //! The calls of the library for C: of the cryptography; of messages and their parts, items of octets, per-message tokens and proxies;
-//! `frames`, of PACs, GSS tokens, SPNEGO and kpasswd messages; and `negotiation`, of the decisions of a negotiation.
+//! and `frames`, of PACs, GSS tokens, SPNEGO and kpasswd messages.
 #![tactic(auto)]
 
 mod call_error;
@@ -13,7 +13,6 @@ mod kept_checksums;
 mod keys;
 pub mod laws;
 mod messages;
-pub mod negotiation;
 pub mod parts;
 pub mod proxies;
 mod sizes;

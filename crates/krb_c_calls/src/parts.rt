@@ -6,5 +6,5 @@ mod messages;
 mod parts;
 
 pub use by_number::check;
-pub use messages::{checked, read};
+pub use messages::checked;
 pub use parts::{open, seal};

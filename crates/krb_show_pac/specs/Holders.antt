@@ -73,3 +73,7 @@ MayBeKdcs opener key = may_be_kdcs (is_entrys key) (is_krbtgts key) (HaveSameOct
 -- it is the checksum of its message under a key that may be the KDC's
 abbrev pub HoldsAsKdcs : PacChecksum → NamedKey → NamedKey → Type 0
 HoldsAsKdcs c opener key = MayBeKdcs opener key × HoldsUnder c key
+
+-- it is not under a key that may be the KDC's, and has the length of the keys of the checksum's type
+abbrev pub FailsAsKdcs : PacChecksum → NamedKey → NamedKey → Type 0
+FailsAsKdcs c opener key = MayBeKdcs opener key × HasVerdict c key.octets verdict.Differs

@@ -14,7 +14,7 @@ use Rattle.krb_show.specs.Pages.{◌then◌, struct_of}
 use Rattle.krb_show.specs.Tokens.{Label, Token, plain}
 use Rattle.krb_decrypt.specs.Keys.{NamedKey}
 use Rattle.krb_show_pac.specs.Checksums.{PacChecksum, HasVerdict, full_checksum, kdc_checksum, server_checksum}
-use Rattle.krb_show_pac.specs.Holders.{HaveSameOctets, HoldsAsKdcs, HoldsUnderNone, IsFirstHolder, IsFirstWhere, IsNoneOf, IsOneOf, NoneWhere}
+use Rattle.krb_show_pac.specs.Holders.{FailsAsKdcs, HaveSameOctets, HoldsAsKdcs, HoldsUnderNone, IsFirstHolder, IsFirstWhere, IsNoneOf, IsOneOf, NoneWhere}
 
 -- ---- one checksum
 
@@ -34,11 +34,20 @@ under_key label own key (Some c) old new =
     (IsOneOf key own × (v : Verdict) × HasVerdict c key.octets v × told label v old new)
     ⊎ (IsNoneOf key own × text_of label (codes "not verified: the key was found in another part") old new)
 
--- why a checksum holds under none of the keys
-abbrev pub under_none : Label → PacChecksum → List Token → List Token → Type 0
-under_none label c old new =
+-- why a checksum is not verified: its type is that of no suite, or no key of the KDC was given that could verify it
+abbrev pub unverified : Label → PacChecksum → List Token → List Token → Type 0
+unverified label c old new =
     (NoSuite checksum_type (signature_type c.given) × told label verdict.NotVerified old new)
-    ⊎ ((suite : ChecksumSuite) × (checksum_type suite ≡ signature_type c.given) × text_of label (codes "holds under none of the keys") old new)
+    ⊎ ((suite : ChecksumSuite) × (checksum_type suite ≡ signature_type c.given) × text_of label no_key old new)
+  where
+    no_key : List ℕ
+    no_key = codes "not verified: no key of the KDC of its type was given"
+
+-- of a checksum that holds under none of the keys: under which it fails, the first of those that may be the KDC's; or that no such key was given
+abbrev pub under_none : Label → Label → List NamedKey → NamedKey → PacChecksum → List Token → List Token → Type 0
+under_none label key_label own opener c old new =
+    ((key : NamedKey) × IsFirstWhere (FailsAsKdcs c opener) own key × (told label verdict.Differs then text_of key_label key.name) old new)
+    ⊎ (NoneWhere (FailsAsKdcs c opener) own × unverified label c old new)
 
 -- of a checksum that is made with this key, which is not the KDC's: whether that opened the ticket
 abbrev pub made_with : Label → NamedKey → NamedKey → List Token → List Token → Type 0
@@ -47,11 +56,11 @@ made_with label opener key old new =
     ⊎ ((HaveSameOctets key opener → ⊥) × text_of label (codes "made with a key that is not the KDC's") old new)
 
 -- of one that holds under none of the keys that may be the KDC's: the first of the others under which
--- it does, or that it holds under none
+-- it does; or that it fails, or is not verified
 abbrev pub under_others : Label → Label → List NamedKey → NamedKey → PacChecksum → List Token → List Token → Type 0
 under_others label key_label own opener c old new =
     ((key : NamedKey) × IsFirstHolder c own key × (made_with label opener key then text_of key_label key.name) old new)
-    ⊎ (HoldsUnderNone c own × under_none label c old new)
+    ⊎ (HoldsUnderNone c own × under_none label key_label own opener c old new)
 
 -- Of a checksum of the KDC (MS-PAC 2.8.2 to 2.8.4): that it holds, and the name of the first of the
 -- keys that may be the KDC's under which it does. Under others alone, as under the one that opened the

@@ -39,6 +39,16 @@ impl<'a> PacChecksum<'a> {
         verify(&self.given, key, &self.message)
     }
 
+    /// Whether it fails under the octets of a key, which has the length of its type.
+    pub(crate) fn differs(&self, key: &[u8]) -> bool
+        ensures { MatchBool result (HasVerdict self.now key.now verdict.Differs) (HasVerdict self.now key.now verdict.Differs → ⊥) }
+    {
+        match self.verdict(key) {
+            Verdict::Differs => true,
+            _ => false,
+        }
+    }
+
     /// Whether it holds under the octets of a key.
     pub(crate) fn holds(&self, key: &[u8]) -> bool
         ensures { MatchBool result (HasVerdict self.now key.now verdict.Holds) (HasVerdict self.now key.now verdict.Holds → ⊥) }

@@ -1,7 +1,7 @@
 //! Keys under which a checksum holds, and keys among keys.
 
 ghost use Rattle.std.specs.Prelude.{◌≡◌, MatchBool, MatchOption};
-ghost use Rattle.krb_show_pac.specs.Holders.{AreSame, HaveSameOctets, HoldsAsKdcs, HoldsUnder, HoldsUnderNone, IsFirstHolder, IsFirstWhere, IsNoneOf, IsOneOf};
+ghost use Rattle.krb_show_pac.specs.Holders.{AreSame, FailsAsKdcs, HaveSameOctets, HoldsAsKdcs, HoldsUnder, HoldsUnderNone, IsFirstHolder, IsFirstWhere, IsNoneOf, IsOneOf};
 ghost use Rattle.krb_show_pac.specs.Holders.{MayBeKdcs, NoneWhere, has_version, is_entrys, is_krbtgts};
 
 use crate::checksum::PacChecksum;
@@ -109,6 +109,30 @@ pub(crate) fn first_kdcs<'k>(
 {
     for key in keys {
         if holds_as_kdcs(checksum, opener, key) {
+            return Some(key);
+        }
+    }
+    None
+}
+
+/// Whether a checksum fails under a key that may be the KDC's.
+fn fails_as_kdcs(checksum: &PacChecksum, opener: &Key, key: &Key) -> bool
+    ensures { MatchBool result (FailsAsKdcs checksum.now opener.now key.now) (FailsAsKdcs checksum.now opener.now key.now → ⊥) }
+{
+    may_be_kdcs(opener, key) && checksum.differs(&key.octets)
+}
+
+/// The first of the keys that may be the KDC's under which a checksum fails.
+pub(crate) fn first_failing<'k>(
+    checksum: &PacChecksum,
+    opener: &Key,
+    keys: &'k [Key],
+) -> Option<&'k Key>
+    ensures { MatchOption result (NoneWhere (FailsAsKdcs checksum.now opener.now) keys.now)
+        (λ key. IsFirstWhere (FailsAsKdcs checksum.now opener.now) keys.now key.now) }
+{
+    for key in keys {
+        if fails_as_kdcs(checksum, opener, key) {
             return Some(key);
         }
     }

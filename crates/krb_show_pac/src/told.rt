@@ -7,10 +7,10 @@ ghost use Rattle.krb_pac_signatures.specs.declared.verdict.Verdict.TheVariants a
 ghost use Rattle.krb_show.specs.Leaves.{text_of};
 ghost use Rattle.krb_show.specs.Pages.{◌then◌};
 ghost use Rattle.krb_show.specs.Tokens.{Begins};
-ghost use Rattle.krb_show_pac.specs.Told.{made_with, told, under_key, under_keys, under_none, under_others};
+ghost use Rattle.krb_show_pac.specs.Told.{made_with, told, under_key, under_keys, under_none, under_others, unverified};
 
 use crate::checksum::PacChecksum;
-use crate::holders::{first_holder, first_kdcs, have_same_octets, is_one_of};
+use crate::holders::{first_failing, first_holder, first_kdcs, have_same_octets, is_one_of};
 use krb_crypto::ChecksumSuite;
 use krb_decrypt::Key;
 use krb_pac_signatures::Verdict;
@@ -81,35 +81,60 @@ fn is_supported(number: u32) -> bool
     }
 }
 
-/// Tells why a checksum holds under none of the keys.
-fn tell_none(
+/// Tells why a checksum is not verified.
+fn tell_unverified(
     alloc: Global,
     label: &Label,
     checksum: &PacChecksum,
     page: &mut Page,
 ) -> Result<(), AllocError>
-    ensures ok { OnOk result (under_none label.now checksum.now page.old.items page.new.items) }
+    ensures ok { OnOk result (unverified label.now checksum.now page.old.items page.new.items) }
     ensures kept { OnOk result (Begins page.old.items page.new.items) }
 {
     if is_supported(checksum.number()) {
-        return show_text(alloc, label, b"holds under none of the keys", page);
+        return show_text(
+            alloc,
+            label,
+            b"not verified: no key of the KDC of its type was given",
+            page,
+        );
     }
     tell(alloc, label, Verdict::NotVerified, page)
 }
 
-/// Tells that a checksum holds, and under which key.
-fn tell_holder(
+/// Tells that a checksum holds or fails, and under which key.
+fn tell_verified(
     alloc: Global,
     label: &Label,
     key_label: &Label,
+    verdict: Verdict,
     key: &Key,
     page: &mut Page,
 ) -> Result<(), AllocError>
-    ensures ok { OnOk result ((told label.now verdict.Holds then text_of key_label.now key.now.name) page.old.items page.new.items) }
+    ensures ok { OnOk result ((told label.now verdict then text_of key_label.now key.now.name) page.old.items page.new.items) }
     ensures kept { OnOk result (Begins page.old.items page.new.items) }
 {
-    tell(alloc, label, Verdict::Holds, page)?;
+    tell(alloc, label, verdict, page)?;
     show_text(alloc, key_label, &key.name, page)
+}
+
+/// Tells of a checksum that holds under none of the keys.
+fn tell_none(
+    alloc: Global,
+    label: &Label,
+    key_label: &Label,
+    own: &[Key],
+    opener: &Key,
+    checksum: &PacChecksum,
+    page: &mut Page,
+) -> Result<(), AllocError>
+    ensures ok { OnOk result (under_none label.now key_label.now own.now opener.now checksum.now page.old.items page.new.items) }
+    ensures kept { OnOk result (Begins page.old.items page.new.items) }
+{
+    match first_failing(checksum, opener, own) {
+        Some(key) => tell_verified(alloc, label, key_label, Verdict::Differs, key, page),
+        None => tell_unverified(alloc, label, checksum, page),
+    }
 }
 
 /// Tells that a checksum is made with a key that is not the KDC's.
@@ -165,7 +190,7 @@ fn tell_under_others(
 {
     match first_holder(checksum, own) {
         Some(key) => tell_maker(alloc, label, key_label, opener, key, page),
-        None => tell_none(alloc, label, checksum, page),
+        None => tell_none(alloc, label, key_label, own, opener, checksum, page),
     }
 }
 
@@ -187,7 +212,7 @@ pub(crate) fn tell_under_keys(
         return tell(alloc, label, Verdict::Absent, page);
     };
     match first_kdcs(checksum, opener, own) {
-        Some(key) => tell_holder(alloc, label, key_label, key, page),
+        Some(key) => tell_verified(alloc, label, key_label, Verdict::Holds, key, page),
         None => tell_under_others(alloc, label, key_label, own, opener, checksum, page),
     }
 }

@@ -61,7 +61,11 @@ krb_finished_refused schema k levels =
 -- ---- PKAuthenticator
 
 abbrev pub pk_authenticator_read : Fields
-pk_authenticator_read = four (one (explicit 160 integer)) (one (explicit 161 time)) (one (explicit 162 integer)) (maybe (explicit 163 octets))
+pk_authenticator_read = four
+    (one (explicit 160 integer))
+    (one (explicit 161 time))
+    (one (explicit 162 integer))
+    (maybe (explicit 163 octets))
 
 abbrev pub pk_authenticator_parts : PkAuthenticator → (pk_authenticator_read).value
 pk_authenticator_parts v = (v.cusec, v.ctime, v.nonce, v.pa_checksum)
@@ -145,7 +149,12 @@ ts_password_creds_refused schema k levels =
 -- ---- TSCspDataDetail
 
 abbrev pub ts_csp_data_detail_read : Fields
-ts_csp_data_detail_read = five (one (explicit 160 integer)) (maybe (explicit 161 octets)) (maybe (explicit 162 octets)) (maybe (explicit 163 octets)) (maybe (explicit 164 octets))
+ts_csp_data_detail_read = five
+    (one (explicit 160 integer))
+    (maybe (explicit 161 octets))
+    (maybe (explicit 162 octets))
+    (maybe (explicit 163 octets))
+    (maybe (explicit 164 octets))
 
 abbrev pub ts_csp_data_detail_parts : TsCspDataDetail → (ts_csp_data_detail_read).value
 ts_csp_data_detail_parts v = (v.key_spec, v.card_name, v.reader_name, v.container_name, v.csp_name)
@@ -168,7 +177,11 @@ ts_csp_data_detail_refused schema k levels =
 -- ---- TSSmartCardCreds
 
 abbrev pub ts_smart_card_creds_read : Fields
-ts_smart_card_creds_read = four (one (explicit 160 octets)) (one (explicit 161 ts_csp_data_detail_reader)) (maybe (explicit 162 octets)) (maybe (explicit 163 octets))
+ts_smart_card_creds_read = four
+    (one (explicit 160 octets))
+    (one (explicit 161 ts_csp_data_detail_reader))
+    (maybe (explicit 162 octets))
+    (maybe (explicit 163 octets))
 
 abbrev pub ts_smart_card_creds_parts : TsSmartCardCreds → (ts_smart_card_creds_read).value
 ts_smart_card_creds_parts v = (v.pin, v.csp_data, v.user_hint, v.domain_hint)
@@ -210,7 +223,9 @@ ts_remote_guard_package_cred_refused schema k levels =
 -- ---- TSRemoteGuardCreds
 
 abbrev pub ts_remote_guard_creds_read : Fields
-ts_remote_guard_creds_read = pair (one (explicit 160 ts_remote_guard_package_cred_reader)) (maybe (explicit 161 (sequence_of ts_remote_guard_package_cred_reader)))
+ts_remote_guard_creds_read = pair
+    (one (explicit 160 ts_remote_guard_package_cred_reader))
+    (maybe (explicit 161 (sequence_of ts_remote_guard_package_cred_reader)))
 
 abbrev pub ts_remote_guard_creds_parts : TsRemoteGuardCreds → (ts_remote_guard_creds_read).value
 ts_remote_guard_creds_parts v = (v.logon_cred, v.supplemental_creds)

@@ -150,7 +150,11 @@ checksum_refused schema k levels =
 -- ---- TicketInner
 
 abbrev pub ticket_read : Fields
-ticket_read = four (one (explicit 160 integer)) (one (explicit 161 text)) (one (explicit 162 principal_name_reader)) (one (explicit 163 encrypted_data_reader))
+ticket_read = four
+    (one (explicit 160 integer))
+    (one (explicit 161 text))
+    (one (explicit 162 principal_name_reader))
+    (one (explicit 163 encrypted_data_reader))
 
 abbrev pub ticket_parts : TicketInner → (ticket_read).value
 ticket_parts v = (v.tkt_vno, v.realm, v.sname, v.enc_part)

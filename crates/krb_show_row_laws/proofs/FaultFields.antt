@@ -380,7 +380,7 @@ module _ (schema : Schema) (kerberos : IsKerberos schema) where
   fields_refused levels f o fault (inl h) = as_other fault (λ e g. at_start e g) h
   fields_refused levels f o fault (inr b) =
       let w = all_over levels b.fs b.of_rows b.before b.at b.rest fault b.left in
-      record { why = errors.InvalidData; at = b.at; fault_is = w.1; is_so = over b.value b.rest b.valid b.octets_are b.ends (some_left b.rest w.0) }
+      record { why = errors.InvalidData; at = b.at; fault_is = w.1; no_device = tt; is_so = over b.value b.rest b.valid b.octets_are b.ends (some_left b.rest w.0) }
 
   pub sequence_refused : {A : Type 0} (levels is start count : ℕ) (rows : List Row) (f : Fields) (fields_of : A → f.value) (c : Codec) (of : c.value → A)
       → slice_get shapes is ≡ Some (shape.Sequence 48 start count) → start + count ≤ length fields → part start count fields ≡ rows

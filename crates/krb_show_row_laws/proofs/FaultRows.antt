@@ -6,8 +6,10 @@ use Rattle.std.proofs.lemmas.List.{append-nil, length-append}
 use Rattle.std.proofs.lemmas.Grind.{common_steps}
 use Rattle.krb_der_core.specs.declared.error.Asn1DerError.{Asn1DerError}
 use Rattle.krb_der_core.specs.declared.error.Asn1DerError.TheVariants as errors
+use Rattle.krb_der.specs.Whole.{NoDevice}
 use Rattle.krb_der_core.specs.Encoding.{IsOctets}
 use Rattle.krb_der_core.specs.ErrorLaws.{content_fits}
+use Rattle.krb_der_core.specs.Errors.{LengthError, cut_length, long_length, no_length, other_form}
 use Rattle.krb_der_core.specs.Errors.{PrefixError, RowError, TaggedError, at_start, cut_content, in_content, no_tag, wrong_content, wrong_length, wrong_tag}
 use Rattle.krb_der_core.specs.Errors.{left_over as over}
 use Rattle.krb_der_core.specs.Tlv.{tlv}
@@ -56,27 +58,34 @@ same m n e = grind (arith, common_steps)
 
 -- ---- errors
 
--- the fault is an error, which is so
+-- the fault is an error, which is so, and of no device
 pub record IsErrorAs (Is : Asn1DerError → Type 0) (fault : Fault) : Type 0 where
   pub why : Asn1DerError
   pub at : ℕ
   pub fault_is : fault ≡ faults.Refused why at
   pub is_so : Is why
+  pub no_device : NoDevice why
 
 pub as_other : {Is Other : Asn1DerError → Type 0} (fault : Fault) → ((e : Asn1DerError) → Is e → Other e) → IsErrorAs Is fault → IsErrorAs Other fault
-as_other fault f h = record { why = h.why; at = h.at; fault_is = h.fault_is; is_so = f h.why h.is_so }
+as_other fault f h = record { why = h.why; at = h.at; fault_is = h.fault_is; is_so = f h.why h.is_so; no_device = h.no_device }
 
-pub refused_as : {Is Other : Asn1DerError → Type 0} (at : ℕ) (fault : Fault) → ((e : Asn1DerError) → Is e → Other e) → refused_at at Is fault
+pub refused_as : {Is Other : Asn1DerError → Type 0} (at : ℕ) (fault : Fault) → ((e : Asn1DerError) → Is e → Other e × NoDevice e) → refused_at at Is fault
     → IsErrorAs Other fault
-refused_as at fault f h = record { why = h.0; at = at; fault_is = h.2; is_so = f h.0 h.1 }
+refused_as at fault f h = let w = f h.0 h.1 in record { why = h.0; at = at; fault_is = h.2; is_so = w.0; no_device = w.1 }
+
+length_device : (octets : List ℕ) (e : Asn1DerError) → LengthError octets e → NoDevice e
+length_device octets e (no_length p) = tt
+length_device octets e (other_form first rest p q) = tt
+length_device octets e (cut_length first rest p q r s) = tt
+length_device octets e (long_length first rest p q r s t) = tt
 
 -- that of a tag or a length is that of an element, whatever the errors of contents
 pub header_as : (first initial : ℕ → Bool) (error : ℕ → List ℕ → Asn1DerError → Type 0) → ((t : ℕ) → first t ≡ initial t) → (o : List ℕ) (e : Asn1DerError)
-    → PrefixError first (λ t content d. ⊥) o e → PrefixError initial error o e
-header_as first initial error f o e (no_tag p) = no_tag p
-header_as first initial error f o e (wrong_tag t rest p w) = wrong_tag t rest p (sym (f t) ∙ w)
-header_as first initial error f o e (wrong_length t rest d p w g) = wrong_length t rest d p (sym (f t) ∙ w) g
-header_as first initial error f o e (cut_content t n rest p w less short) = cut_content t n rest p (sym (f t) ∙ w) less short
+    → PrefixError first (λ t content d. ⊥) o e → PrefixError initial error o e × NoDevice e
+header_as first initial error f o e (no_tag p) = (no_tag p, tt)
+header_as first initial error f o e (wrong_tag t rest p w) = (wrong_tag t rest p (sym (f t) ∙ w), tt)
+header_as first initial error f o e (wrong_length t rest d p w g) = (wrong_length t rest d p (sym (f t) ∙ w) g, length_device rest d g)
+header_as first initial error f o e (cut_content t n rest p w less short) = (cut_content t n rest p (sym (f t) ∙ w) less short, tt)
 header_as first initial error f o e (wrong_content t content rest d p w less g) = absurd g
 
 -- the octets are those of a value
@@ -121,6 +130,7 @@ module _ (schema : Schema) (kerberos : IsKerberos schema) where
         why = errors.InvalidData;
         at = _;
         fault_is = refl;
+        no_device = tt;
         is_so = over v.value rest v.valid (whole ∙ ap (λ (a : List ℕ). a ++ rest) v.are) tt (some_left rest some);
       }
 

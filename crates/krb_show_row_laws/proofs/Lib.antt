@@ -44,6 +44,7 @@ pub mod Readers
 pub mod FaultRows
 pub mod FaultFields
 pub mod FaultLeaves
+pub mod FirstErrors
 pub mod TiedTypes
 pub mod DataTypeRows
 pub mod PartRows

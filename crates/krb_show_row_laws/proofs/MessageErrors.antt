@@ -25,7 +25,22 @@ use Rattle.krb_show_row_laws.proofs.DataTypeErrors.{principal_name_reader, princ
 -- ---- KDC-REQ-BODY
 
 abbrev pub kdc_req_body_read : Fields
-kdc_req_body_read = triple (four (one (explicit 160 bits)) (maybe (explicit 161 principal_name_reader)) (one (explicit 162 text)) (maybe (explicit 163 principal_name_reader))) (four (maybe (explicit 164 time)) (one (explicit 165 time)) (maybe (explicit 166 time)) (one (explicit 167 integer))) (four (one (explicit 168 (sequence_of integer))) (maybe (explicit 169 (sequence_of host_address_reader))) (maybe (explicit 170 encrypted_data_reader)) (maybe (explicit 171 (sequence_of (application 1 ticket_reader)))))
+kdc_req_body_read = triple
+    (four
+    (one (explicit 160 bits))
+    (maybe (explicit 161 principal_name_reader))
+    (one (explicit 162 text))
+    (maybe (explicit 163 principal_name_reader)))
+    (four
+    (maybe (explicit 164 time))
+    (one (explicit 165 time))
+    (maybe (explicit 166 time))
+    (one (explicit 167 integer)))
+    (four
+    (one (explicit 168 (sequence_of integer)))
+    (maybe (explicit 169 (sequence_of host_address_reader)))
+    (maybe (explicit 170 encrypted_data_reader))
+    (maybe (explicit 171 (sequence_of (application 1 ticket_reader)))))
 
 abbrev pub kdc_req_body_parts : KdcReqBody → (kdc_req_body_read).value
 kdc_req_body_parts v = ((v.kdc_options, v.cname, v.realm, v.sname), (v.from, v.till, v.rtime, v.nonce), (v.etype, v.addresses, v.enc_authorization_data, v.additional_tickets))
@@ -58,7 +73,11 @@ kdc_req_body_refused schema k levels =
 -- ---- KDC-REQ (AS)
 
 abbrev pub kdc_req_as_read : Fields
-kdc_req_as_read = four (one (explicit 161 integer)) (one (explicit 162 integer)) (maybe (explicit 163 (sequence_of pa_data_reader))) (one (explicit 164 kdc_req_body_reader))
+kdc_req_as_read = four
+    (one (explicit 161 integer))
+    (one (explicit 162 integer))
+    (maybe (explicit 163 (sequence_of pa_data_reader)))
+    (one (explicit 164 kdc_req_body_reader))
 
 abbrev pub kdc_req_as_parts : KdcReq → (kdc_req_as_read).value
 kdc_req_as_parts v = (v.pvno, v.msg_type, v.padata, v.req_body)
@@ -80,7 +99,11 @@ kdc_req_as_refused schema k levels =
 -- ---- KDC-REQ (TGS)
 
 abbrev pub kdc_req_tgs_read : Fields
-kdc_req_tgs_read = four (one (explicit 161 integer)) (one (explicit 162 integer)) (maybe (explicit 163 (sequence_of pa_data_reader))) (one (explicit 164 kdc_req_body_reader))
+kdc_req_tgs_read = four
+    (one (explicit 161 integer))
+    (one (explicit 162 integer))
+    (maybe (explicit 163 (sequence_of pa_data_reader)))
+    (one (explicit 164 kdc_req_body_reader))
 
 abbrev pub kdc_req_tgs_parts : KdcReq → (kdc_req_tgs_read).value
 kdc_req_tgs_parts v = (v.pvno, v.msg_type, v.padata, v.req_body)
@@ -102,7 +125,16 @@ kdc_req_tgs_refused schema k levels =
 -- ---- KDC-REP (AS)
 
 abbrev pub kdc_rep_as_read : Fields
-kdc_rep_as_read = pair (triple (one (explicit 160 integer)) (one (explicit 161 integer)) (maybe (explicit 162 (sequence_of pa_data_reader)))) (four (one (explicit 163 text)) (one (explicit 164 principal_name_reader)) (one (explicit 165 (application 1 ticket_reader))) (one (explicit 166 encrypted_data_reader)))
+kdc_rep_as_read = pair
+    (triple
+    (one (explicit 160 integer))
+    (one (explicit 161 integer))
+    (maybe (explicit 162 (sequence_of pa_data_reader))))
+    (four
+    (one (explicit 163 text))
+    (one (explicit 164 principal_name_reader))
+    (one (explicit 165 (application 1 ticket_reader)))
+    (one (explicit 166 encrypted_data_reader)))
 
 abbrev pub kdc_rep_as_parts : KdcRep → (kdc_rep_as_read).value
 kdc_rep_as_parts v = ((v.pvno, v.msg_type, v.padata), (v.crealm, v.cname, v.ticket, v.enc_part))
@@ -129,7 +161,16 @@ kdc_rep_as_refused schema k levels =
 -- ---- KDC-REP (TGS)
 
 abbrev pub kdc_rep_tgs_read : Fields
-kdc_rep_tgs_read = pair (triple (one (explicit 160 integer)) (one (explicit 161 integer)) (maybe (explicit 162 (sequence_of pa_data_reader)))) (four (one (explicit 163 text)) (one (explicit 164 principal_name_reader)) (one (explicit 165 (application 1 ticket_reader))) (one (explicit 166 encrypted_data_reader)))
+kdc_rep_tgs_read = pair
+    (triple
+    (one (explicit 160 integer))
+    (one (explicit 161 integer))
+    (maybe (explicit 162 (sequence_of pa_data_reader))))
+    (four
+    (one (explicit 163 text))
+    (one (explicit 164 principal_name_reader))
+    (one (explicit 165 (application 1 ticket_reader)))
+    (one (explicit 166 encrypted_data_reader)))
 
 abbrev pub kdc_rep_tgs_parts : KdcRep → (kdc_rep_tgs_read).value
 kdc_rep_tgs_parts v = ((v.pvno, v.msg_type, v.padata), (v.crealm, v.cname, v.ticket, v.enc_part))
@@ -156,7 +197,23 @@ kdc_rep_tgs_refused schema k levels =
 -- ---- EncKDCRepPart
 
 abbrev pub enc_kdc_rep_part_read : Fields
-enc_kdc_rep_part_read = triple (four (one (explicit 160 encryption_key_reader)) (one (explicit 161 (sequence_of last_req_reader))) (one (explicit 162 integer)) (maybe (explicit 163 time))) (five (one (explicit 164 bits)) (one (explicit 165 time)) (maybe (explicit 166 time)) (one (explicit 167 time)) (maybe (explicit 168 time))) (four (one (explicit 169 text)) (one (explicit 170 principal_name_reader)) (maybe (explicit 171 (sequence_of host_address_reader))) (maybe (explicit 172 (sequence_of pa_data_reader))))
+enc_kdc_rep_part_read = triple
+    (four
+    (one (explicit 160 encryption_key_reader))
+    (one (explicit 161 (sequence_of last_req_reader)))
+    (one (explicit 162 integer))
+    (maybe (explicit 163 time)))
+    (five
+    (one (explicit 164 bits))
+    (one (explicit 165 time))
+    (maybe (explicit 166 time))
+    (one (explicit 167 time))
+    (maybe (explicit 168 time)))
+    (four
+    (one (explicit 169 text))
+    (one (explicit 170 principal_name_reader))
+    (maybe (explicit 171 (sequence_of host_address_reader)))
+    (maybe (explicit 172 (sequence_of pa_data_reader))))
 
 abbrev pub enc_kdc_rep_part_parts : EncKdcRepPart → (enc_kdc_rep_part_read).value
 enc_kdc_rep_part_parts v = ((v.key, v.last_req, v.nonce, v.key_expiration), (v.flags, v.auth_time, v.start_time, v.end_time, v.renew_till), (v.srealm, v.sname, v.caddr, v.encrypted_pa_data))
@@ -190,7 +247,12 @@ enc_kdc_rep_part_refused schema k levels =
 -- ---- ApReqInner
 
 abbrev pub ap_req_read : Fields
-ap_req_read = five (one (explicit 160 integer)) (one (explicit 161 integer)) (one (explicit 162 bits)) (one (explicit 163 (application 1 ticket_reader))) (one (explicit 164 encrypted_data_reader))
+ap_req_read = five
+    (one (explicit 160 integer))
+    (one (explicit 161 integer))
+    (one (explicit 162 bits))
+    (one (explicit 163 (application 1 ticket_reader)))
+    (one (explicit 164 encrypted_data_reader))
 
 abbrev pub ap_req_parts : ApReqInner → (ap_req_read).value
 ap_req_parts v = (v.pvno, v.msg_type, v.ap_options, v.ticket, v.authenticator)
@@ -255,7 +317,11 @@ krb_priv_refused schema k levels =
 -- ---- KrbCredInner
 
 abbrev pub krb_cred_read : Fields
-krb_cred_read = four (one (explicit 160 integer)) (one (explicit 161 integer)) (one (explicit 162 (sequence_of (application 1 ticket_reader)))) (one (explicit 163 encrypted_data_reader))
+krb_cred_read = four
+    (one (explicit 160 integer))
+    (one (explicit 161 integer))
+    (one (explicit 162 (sequence_of (application 1 ticket_reader))))
+    (one (explicit 163 encrypted_data_reader))
 
 abbrev pub krb_cred_parts : KrbCredInner → (krb_cred_read).value
 krb_cred_parts v = (v.pvno, v.msg_type, v.tickets, v.enc_part)
@@ -277,7 +343,23 @@ krb_cred_refused schema k levels =
 -- ---- KrbErrorInner
 
 abbrev pub krb_error_read : Fields
-krb_error_read = triple (four (one (explicit 160 integer)) (one (explicit 161 integer)) (maybe (explicit 162 time)) (maybe (explicit 163 integer))) (five (one (explicit 164 time)) (one (explicit 165 integer)) (one (explicit 166 unsigned)) (maybe (explicit 167 text)) (maybe (explicit 168 principal_name_reader))) (four (one (explicit 169 text)) (one (explicit 170 principal_name_reader)) (maybe (explicit 171 text)) (maybe (explicit 172 octets)))
+krb_error_read = triple
+    (four
+    (one (explicit 160 integer))
+    (one (explicit 161 integer))
+    (maybe (explicit 162 time))
+    (maybe (explicit 163 integer)))
+    (five
+    (one (explicit 164 time))
+    (one (explicit 165 integer))
+    (one (explicit 166 unsigned))
+    (maybe (explicit 167 text))
+    (maybe (explicit 168 principal_name_reader)))
+    (four
+    (one (explicit 169 text))
+    (one (explicit 170 principal_name_reader))
+    (maybe (explicit 171 text))
+    (maybe (explicit 172 octets)))
 
 abbrev pub krb_error_parts : KrbErrorInner → (krb_error_read).value
 krb_error_parts v = ((v.pvno, v.msg_type, v.ctime, v.cusec), (v.stime, v.susec, v.error_code, v.crealm, v.cname), (v.realm, v.sname, v.e_text, v.e_data))

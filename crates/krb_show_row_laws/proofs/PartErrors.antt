@@ -19,7 +19,20 @@ use Rattle.krb_show_row_laws.proofs.DataTypeErrors.{principal_name_reader, princ
 -- ---- EncTicketPartInner
 
 abbrev pub enc_ticket_part_read : Fields
-enc_ticket_part_read = pair (five (one (explicit 160 bits)) (one (explicit 161 encryption_key_reader)) (one (explicit 162 text)) (one (explicit 163 principal_name_reader)) (one (explicit 164 transited_encoding_reader))) (six (one (explicit 165 time)) (maybe (explicit 166 time)) (one (explicit 167 time)) (maybe (explicit 168 time)) (maybe (explicit 169 (sequence_of host_address_reader))) (maybe (explicit 170 (sequence_of authorization_data_reader))))
+enc_ticket_part_read = pair
+    (five
+    (one (explicit 160 bits))
+    (one (explicit 161 encryption_key_reader))
+    (one (explicit 162 text))
+    (one (explicit 163 principal_name_reader))
+    (one (explicit 164 transited_encoding_reader)))
+    (six
+    (one (explicit 165 time))
+    (maybe (explicit 166 time))
+    (one (explicit 167 time))
+    (maybe (explicit 168 time))
+    (maybe (explicit 169 (sequence_of host_address_reader)))
+    (maybe (explicit 170 (sequence_of authorization_data_reader))))
 
 abbrev pub enc_ticket_part_parts : EncTicketPartInner → (enc_ticket_part_read).value
 enc_ticket_part_parts v = ((v.flags, v.key, v.crealm, v.cname, v.transited), (v.auth_time, v.starttime, v.endtime, v.renew_till, v.caddr, v.authorization_data))
@@ -50,7 +63,18 @@ enc_ticket_part_refused schema k levels =
 -- ---- AuthenticatorInner
 
 abbrev pub authenticator_read : Fields
-authenticator_read = pair (six (one (explicit 160 integer)) (one (explicit 161 text)) (one (explicit 162 principal_name_reader)) (maybe (explicit 163 checksum_reader)) (one (explicit 164 integer)) (one (explicit 165 time))) (triple (maybe (explicit 166 encryption_key_reader)) (maybe (explicit 167 integer)) (maybe (explicit 168 (sequence_of authorization_data_reader))))
+authenticator_read = pair
+    (six
+    (one (explicit 160 integer))
+    (one (explicit 161 text))
+    (one (explicit 162 principal_name_reader))
+    (maybe (explicit 163 checksum_reader))
+    (one (explicit 164 integer))
+    (one (explicit 165 time)))
+    (triple
+    (maybe (explicit 166 encryption_key_reader))
+    (maybe (explicit 167 integer))
+    (maybe (explicit 168 (sequence_of authorization_data_reader))))
 
 abbrev pub authenticator_parts : AuthenticatorInner → (authenticator_read).value
 authenticator_parts v = ((v.authenticator_vno, v.crealm, v.cname, v.cksum, v.cusec, v.ctime), (v.subkey, v.seq_number, v.authorization_data))
@@ -79,7 +103,11 @@ authenticator_refused schema k levels =
 -- ---- EncApRepPartInner
 
 abbrev pub enc_ap_rep_part_read : Fields
-enc_ap_rep_part_read = four (one (explicit 160 time)) (one (explicit 161 integer)) (maybe (explicit 162 encryption_key_reader)) (maybe (explicit 163 integer))
+enc_ap_rep_part_read = four
+    (one (explicit 160 time))
+    (one (explicit 161 integer))
+    (maybe (explicit 162 encryption_key_reader))
+    (maybe (explicit 163 integer))
 
 abbrev pub enc_ap_rep_part_parts : EncApRepPartInner → (enc_ap_rep_part_read).value
 enc_ap_rep_part_parts v = (v.ctime, v.cusec, v.subkey, v.seq_number)
@@ -101,7 +129,13 @@ enc_ap_rep_part_refused schema k levels =
 -- ---- EncKrbPrivPartInner
 
 abbrev pub enc_krb_priv_part_read : Fields
-enc_krb_priv_part_read = six (one (explicit 160 octets)) (maybe (explicit 161 time)) (maybe (explicit 162 integer)) (maybe (explicit 163 integer)) (one (explicit 164 host_address_reader)) (maybe (explicit 165 host_address_reader))
+enc_krb_priv_part_read = six
+    (one (explicit 160 octets))
+    (maybe (explicit 161 time))
+    (maybe (explicit 162 integer))
+    (maybe (explicit 163 integer))
+    (one (explicit 164 host_address_reader))
+    (maybe (explicit 165 host_address_reader))
 
 abbrev pub enc_krb_priv_part_parts : EncKrbPrivPartInner → (enc_krb_priv_part_read).value
 enc_krb_priv_part_parts v = (v.user_data, v.timestamp, v.usec, v.seq_number, v.s_address, v.r_address)
@@ -125,7 +159,20 @@ enc_krb_priv_part_refused schema k levels =
 -- ---- KrbCredInfo
 
 abbrev pub krb_cred_info_read : Fields
-krb_cred_info_read = pair (five (one (explicit 160 encryption_key_reader)) (maybe (explicit 161 text)) (maybe (explicit 162 principal_name_reader)) (maybe (explicit 163 bits)) (maybe (explicit 164 time))) (six (maybe (explicit 165 time)) (maybe (explicit 166 time)) (maybe (explicit 167 time)) (maybe (explicit 168 text)) (maybe (explicit 169 principal_name_reader)) (maybe (explicit 170 (sequence_of host_address_reader))))
+krb_cred_info_read = pair
+    (five
+    (one (explicit 160 encryption_key_reader))
+    (maybe (explicit 161 text))
+    (maybe (explicit 162 principal_name_reader))
+    (maybe (explicit 163 bits))
+    (maybe (explicit 164 time)))
+    (six
+    (maybe (explicit 165 time))
+    (maybe (explicit 166 time))
+    (maybe (explicit 167 time))
+    (maybe (explicit 168 text))
+    (maybe (explicit 169 principal_name_reader))
+    (maybe (explicit 170 (sequence_of host_address_reader))))
 
 abbrev pub krb_cred_info_parts : KrbCredInfo → (krb_cred_info_read).value
 krb_cred_info_parts v = ((v.key, v.prealm, v.pname, v.flags, v.auth_time), (v.start_time, v.end_time, v.renew_till, v.srealm, v.sname, v.caddr))
@@ -156,7 +203,13 @@ krb_cred_info_refused schema k levels =
 -- ---- EncKrbCredPartInner
 
 abbrev pub enc_krb_cred_part_read : Fields
-enc_krb_cred_part_read = six (one (explicit 160 (sequence_of krb_cred_info_reader))) (maybe (explicit 161 integer)) (maybe (explicit 162 time)) (maybe (explicit 163 integer)) (maybe (explicit 164 host_address_reader)) (maybe (explicit 165 host_address_reader))
+enc_krb_cred_part_read = six
+    (one (explicit 160 (sequence_of krb_cred_info_reader)))
+    (maybe (explicit 161 integer))
+    (maybe (explicit 162 time))
+    (maybe (explicit 163 integer))
+    (maybe (explicit 164 host_address_reader))
+    (maybe (explicit 165 host_address_reader))
 
 abbrev pub enc_krb_cred_part_parts : EncKrbCredPartInner → (enc_krb_cred_part_read).value
 enc_krb_cred_part_parts v = (v.ticket_info, v.nonce, v.timestamp, v.usec, v.s_address, v.r_address)

@@ -103,7 +103,10 @@ external_principal_identifier_refused schema k levels =
 -- ---- PA-PK-AS-REQ
 
 abbrev pub pa_pk_as_req_read : Fields
-pa_pk_as_req_read = triple (one (octets_under 128)) (maybe (explicit 161 (sequence_of external_principal_identifier_reader))) (maybe (octets_under 130))
+pa_pk_as_req_read = triple
+    (one (octets_under 128))
+    (maybe (explicit 161 (sequence_of external_principal_identifier_reader)))
+    (maybe (octets_under 130))
 
 abbrev pub pa_pk_as_req_parts : PaPkAsReq → (pa_pk_as_req_read).value
 pa_pk_as_req_parts v = (v.signed_auth_pack, v.trusted_certifiers, v.kdc_pk_id)
@@ -247,7 +250,11 @@ dh_req_info_refused schema k levels =
 -- ---- DHAuthPack
 
 abbrev pub dh_auth_pack_read : Fields
-dh_auth_pack_read = four (one (explicit 160 pk_authenticator_reader)) (maybe (explicit 161 dh_req_info_reader)) (maybe (explicit 162 (sequence_of algorithm_identifier_reader))) (maybe (explicit 163 octets))
+dh_auth_pack_read = four
+    (one (explicit 160 pk_authenticator_reader))
+    (maybe (explicit 161 dh_req_info_reader))
+    (maybe (explicit 162 (sequence_of algorithm_identifier_reader)))
+    (maybe (explicit 163 octets))
 
 abbrev pub dh_auth_pack_parts : (AuthPack DhReqInfo) → (dh_auth_pack_read).value
 dh_auth_pack_parts v = (v.pk_authenticator, v.client_public_value, v.supported_cms_types, v.client_dh_nonce)
@@ -269,7 +276,11 @@ dh_auth_pack_refused schema k levels =
 -- ---- ECAuthPack
 
 abbrev pub ec_auth_pack_read : Fields
-ec_auth_pack_read = four (one (explicit 160 pk_authenticator_reader)) (maybe (explicit 161 subject_public_key_info_reader)) (maybe (explicit 162 (sequence_of algorithm_identifier_reader))) (maybe (explicit 163 octets))
+ec_auth_pack_read = four
+    (one (explicit 160 pk_authenticator_reader))
+    (maybe (explicit 161 subject_public_key_info_reader))
+    (maybe (explicit 162 (sequence_of algorithm_identifier_reader)))
+    (maybe (explicit 163 octets))
 
 abbrev pub ec_auth_pack_parts : (AuthPack SubjectPublicKeyInfo) → (ec_auth_pack_read).value
 ec_auth_pack_parts v = (v.pk_authenticator, v.client_public_value, v.supported_cms_types, v.client_dh_nonce)

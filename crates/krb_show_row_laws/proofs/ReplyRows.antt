@@ -29,7 +29,7 @@ use Rattle.krb_show_row_laws.proofs.PublicKeyRows.{dh_rep_info, dh_rep_info_same
 use Rattle.krb_show_row_laws.proofs.Readers.{Reader, explicit, whole_error}
 use Rattle.krb_show_row_laws.proofs.Readers as reader
 use Rattle.krb_show_row_laws.proofs.Taken.{AreOfRow, AreTaken, HaveErrors, are_taken, refused_as}
-use Rattle.krb_show_row_laws.proofs.TiedTypes.{is_first_error}
+use Rattle.krb_show_row_laws.proofs.FirstErrors.{is_first_error}
 use Rattle.krb_show_row_laws.specs.Ties.{IsEncoding, IsFirstError, IsRefusedAs, IsTaken, RepliesHaveErrors, RepliesTakeEncodings}
 
 -- ---- the alternatives and their rows
@@ -187,7 +187,7 @@ module _ {t : EncodingOf PaPkAsRep} (r : IsReplyType t) where
       → (schema : Schema) (name : Name) → IsKerberos schema → HaveErrors (λ octets e. is_pack octets ≡ b → IsFirstError t octets e) schema row name
   have_errors b row c tie whole schema name k octets fault small less f =
       let w = whole_refused schema k 64 row c (tie schema k) name [] 0 octets fault (small, less) f in
-      (w.why, w.at, w.fault_is, λ p. is_first_error t octets w.why less (whole octets w.why p w.is_so))
+      (w.why, w.at, w.fault_is, λ p. is_first_error t octets w.why less w.no_device (whole octets w.why p w.is_so))
 
   told : (b : Bool) (octets : List ℕ) (e : Asn1DerError) → is_pack octets ≡ b → (e ≡ errors.OutOfMemory) ⊎ (is_pack octets ≡ b → IsFirstError t octets e)
       → IsRefusedAs t octets e

@@ -1,9 +1,6 @@
 -- From a row and a codec to a type.
-use Rattle.std.proofs.Common.{◌≡◌, ℕ, ◌<◌, ◌^◌, sym, ◌∙◌, List, [], Some, length}
-use Rattle.krb_der_core.specs.ErrorLaws.{value_laws}
-use Rattle.krb_der_core.specs.Errors.{ValueError}
+use Rattle.std.proofs.Common.{◌≡◌, ℕ, sym, ◌∙◌, List, [], Some}
 use Rattle.krb_der_core.specs.declared.der.DerEncode.{Ghosts as EncodingOf}
-use Rattle.krb_der_core.specs.declared.error.Asn1DerError.{Asn1DerError}
 use Rattle.krb_schema.specs.declared.shape.Name.{Name}
 use Rattle.krb_schema.specs.declared.shape.Schema.{Schema}
 use Rattle.krb_schema.specs.Named.{IsKerberos, row_in}
@@ -11,8 +8,9 @@ use Rattle.krb_schema.specs.Types.{types}
 use Rattle.krb_show_row_laws.proofs.Codecs.{Codec}
 use Rattle.krb_show_row_laws.proofs.CodecRows.{Tie}
 use Rattle.krb_show_row_laws.proofs.FaultRows.{FaultTie, whole_refused}
+use Rattle.krb_show_row_laws.proofs.FirstErrors.{is_first_error}
 use Rattle.krb_show_row_laws.proofs.Readers.{Reader}
-use Rattle.krb_show_row_laws.specs.Ties.{HasItsRow, IsFirstError, IsRowOf}
+use Rattle.krb_show_row_laws.specs.Ties.{HasItsRow, IsRowOf}
 
 -- the values of a type, as those of a codec
 pub record IsCoded {A : Type 0} (t : EncodingOf A) (c : Codec) : Type 0 where
@@ -27,13 +25,6 @@ pub record IsCoded {A : Type 0} (t : EncodingOf A) (c : Codec) : Type 0 where
 abbrev pub reader_of : {A : Type 0} → EncodingOf A → Reader
 reader_of {A} t = record { value = A; valid = t.is_value; enc = t.enc; first = t.first; error = t.error }
 
-pub is_first_error : {A : Type 0} (t : EncodingOf A) (octets : List ℕ) (why : Asn1DerError) → length octets < 2 ^ 64
-    → ValueError t.is_value t.enc t.first t.error octets why → IsFirstError t octets why
-is_first_error t octets why less f = record {
-  first = f;
-  only = λ other g. (value_laws t.is_value t.enc t.first t.is_element t.error t.error_laws t.one_value).one_error octets other why less g f;
-}
-
 pub row_of : {A : Type 0} (t : EncodingOf A) (c : Codec) (schema : Schema) (k : IsKerberos schema) (row : ℕ) (name : Name) → IsCoded t c → Tie schema k 64 row c
     → FaultTie schema k 64 row (reader_of t) → IsRowOf t schema row name
 row_of t c schema k row name i tie faults = record {
@@ -43,7 +34,7 @@ row_of t c schema k row name i tie faults = record {
       (i.of x.code, i.valid_of x.code x.valid, x.are ∙ sym (i.enc_of x.code)));
   refused = λ octets fault small less f.
       (let w = whole_refused schema k 64 row (reader_of t) faults name [] 0 octets fault (small, less) f in
-      (w.why, w.at, w.fault_is, is_first_error t octets w.why less w.is_so));
+      (w.why, w.at, w.fault_is, is_first_error t octets w.why less w.no_device w.is_so));
 }
 
 pub tied : {A : Type 0} {t : EncodingOf A} (c : Codec) (row_name : List ℕ) (is : ℕ) → row_in types row_name ≡ Some is

@@ -1,6 +1,7 @@
 -- That a type has the encodings that its row of the table allows, and the errors of the walk, and what that makes of answers by the row.
 use Rattle.std.specs.Prelude.{◌≡◌, ◌⊎◌, ◌<◌, ◌^◌, ℕ, List, [], IfErr, MatchResult, Result, Some, Vec, length}
 use Rattle.std.specs.declared.alloc.Global.{Global}
+use Rattle.krb_der.specs.Whole.{IsNotRead, NoDevice}
 use Rattle.krb_der_core.specs.Encoding.{IsOctets}
 use Rattle.krb_der_core.specs.Errors.{ValueError}
 use Rattle.krb_der_core.specs.declared.error.Asn1DerError.{Asn1DerError}
@@ -23,10 +24,11 @@ use Rattle.krb_show_pages.specs.Choices.{IsReplyTold}
 abbrev pub IsEncoding : {A : Type 0} → EncodingOf A → List ℕ → Type 0
 IsEncoding {A} t octets = (v : A) × t.is_value v × (octets ≡ t.enc v)
 
--- The first error of octets that are to be an encoding of the type, as `from_bytes` has it: this one, and no other.
+-- Why octets are the encoding of no value of the type, as `from_bytes` tells it: by their first error, and no other is their first; no device failed.
 pub record IsFirstError {A : Type 0} (t : EncodingOf A) (octets : List ℕ) (e : Asn1DerError) : Type 0 where
-  pub first : ValueError t.is_value t.enc t.first t.error octets e
+  pub not_read : IsNotRead t octets e
   pub only : (other : Asn1DerError) → ValueError t.is_value t.enc t.first t.error octets other → other ≡ e
+  pub no_device : NoDevice e
 
 -- a fault of the walk is that error, at a place
 abbrev pub IsErrorAt : {A : Type 0} → EncodingOf A → List ℕ → Fault → Type 0

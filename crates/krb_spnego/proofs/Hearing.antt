@@ -180,7 +180,7 @@ reply_taken t meaning law mechanisms received state came before octets result h 
     subst (λ x. IsAcceptorAfter t meaning mechanisms received octets x.0) (sym is)
     (inr (message, (reads, law mechanisms received state came before (message ∷ []) stepped.0 h (stepped, (steps, refl)))))
 
-later_by : {M : Type 0} (bare : Bool) (fresh : Bool) (o : EncodingOf GssApiNegInit) (l : EncodingOf (List (List ℕ))) (t : EncodingOf NegTokenTarg)
+pub later_by : {M : Type 0} (bare : Bool) (fresh : Bool) (o : EncodingOf GssApiNegInit) (l : EncodingOf (List (List ℕ))) (t : EncodingOf NegTokenTarg)
     (meaning : Meaning M) → AcceptorLaw meaning → (mechanisms : List M) (received : Received) (state : Option NegState) (came : Option (List ℕ))
     (before : Acceptor M) (octets : List ℕ) (result : Taken (Acceptor M)) → fresh ≡ false → IsAcceptor meaning mechanisms received state came before
     → AcceptorTakesBy bare fresh o l t meaning before octets result → IsAcceptorAfter t meaning mechanisms received octets result.0
@@ -232,7 +232,7 @@ failed_reply t meaning refusal octets result (inr (message, (reads, (stepped, (s
     absurd (no_answer (sym some ∙ ap (λ x. is_some x.1) steps))
 failed_reply t meaning refusal octets result (inr (message, (reads, (stepped, (steps, inr (answer, (writes, is))))))) = ap (λ x. x.0) is ∙ ap (λ x. x.0) steps
 
-none_step : {M : Type 0} (o : EncodingOf GssApiNegInit) (l : EncodingOf (List (List ℕ))) (t : EncodingOf NegTokenTarg) (meaning : Meaning M)
+pub none_step : {M : Type 0} (o : EncodingOf GssApiNegInit) (l : EncodingOf (List (List ℕ))) (t : EncodingOf NegTokenTarg) (meaning : Meaning M)
     (before : Acceptor M) (octets : List ℕ) (result : Taken (Acceptor M)) → HasNoNegotiation before → AcceptorTakes o l t meaning before octets result
     → HasNoNegotiation result.0
 none_step o l t meaning (acceptors.Fresh side) octets result h takes = absurd h

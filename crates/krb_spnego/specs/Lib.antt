@@ -5,3 +5,7 @@ pub mod Taking
 pub mod Offering
 pub mod Hearing
 pub mod KerberosMeaning
+pub mod Told
+pub mod Asking
+pub mod Answering
+pub mod Retelling

@@ -3,6 +3,9 @@
 
 ghost use Rattle.std.specs.Prelude.{◌≡◌, ◌++◌, ◌∷◌, [], ℕ, List, Option, false};
 ghost use Rattle.krb_spnego.specs.Hearing.{AcceptorHears, InitiatorHears, IsAcceptorAfter, IsAcceptorAfterOffer, IsInitiatorAfter};
+ghost use Rattle.krb_spnego.specs.Retelling.{AcceptorIsTold, InitiatorIsTold};
+ghost use Rattle.krb_spnego.specs.Told.{told_meaning};
+ghost use Rattle.krb_spnego.specs.declared.told.Told.{Told as ToldOf};
 ghost use Rattle.krb_spnego.specs.Taking.{AcceptorTakes, Taken, is_fresh_side};
 ghost use Rattle.krb_spnego_rules.specs.Justified.{IsAcceptor, IsInitiator, Offering, Received};
 ghost use Rattle.krb_spnego_rules.specs.declared.acceptor.Acceptor.{Acceptor as AcceptorOf};
@@ -13,6 +16,7 @@ ghost use Rattle.krb_spnego_rules.specs.declared.initiator.Initiator.TheVariants
 ghost use Rattle.krb_spnego_rules.specs.declared.message.Refusal.{Refusal as RefusalOf};
 ghost use Rattle.krb_spnego_rules.specs.declared.words.NegState.{NegState};
 
+use crate::told::Told;
 use krb_der::DerEncode;
 use krb_der::laws::concatenated_encodings;
 use krb_gss_tokens::gss_api::{ApplicationTag0, GssApiNegInit, MechTypeList, NegTokenTarg1};
@@ -69,4 +73,32 @@ pub fn acceptor<M: Mechanism>()
         → after ≡ acceptors.Failed refusal }
 {
     acceptor_is_justified::<M>();
+}
+
+/// No downgrade without a forged MIC, of an initiator whose mechanisms run elsewhere. Before each
+/// step its caller tells of them anew, and nothing else changes. After any octets, one after
+/// another, it has failed, or the last ones are the one encoding of a NegTokenResp, and it is as
+/// `initiator` says: a MIC that holds is the one that the caller verified, of the list that was
+/// sent.
+pub fn told_initiator()
+    ensures { (offering : Offering) (state : Option NegState) (came : Option (List ℕ)) (before : InitiatorOf ToldOf)
+        (all : List (List ℕ)) (last : List ℕ) (after : InitiatorOf ToldOf)
+        → IsInitiator told_meaning offering state came before
+        → InitiatorIsTold ⟦<NegTokenTarg1 as DerEncode>⟧ before (all ++ last ∷ []) after
+        → IsInitiatorAfter ⟦<NegTokenTarg1 as DerEncode>⟧ told_meaning offering last after }
+{
+    initiator_is_justified::<Told>();
+}
+
+/// No downgrade without a forged MIC, of an acceptor whose mechanisms run elsewhere, after its
+/// offer, of which `acceptor` speaks.
+pub fn told_acceptor()
+    ensures { (mechanisms : List ToldOf) (received : Received) (state : Option NegState) (came : Option (List ℕ)) (before : AcceptorOf ToldOf)
+        (all : List (List ℕ)) (last : List ℕ) (after : AcceptorOf ToldOf)
+        → IsAcceptor told_meaning mechanisms received state came before
+        → AcceptorIsTold ⟦<ApplicationTag0<GssApiNegInit> as DerEncode>⟧ ⟦<MechTypeList as DerEncode>⟧ ⟦<NegTokenTarg1 as DerEncode>⟧ before
+        (all ++ last ∷ []) after
+        → IsAcceptorAfter ⟦<NegTokenTarg1 as DerEncode>⟧ told_meaning mechanisms received last after }
+{
+    acceptor_is_justified::<Told>();
 }

@@ -15,7 +15,7 @@ mod row;
 mod suites;
 mod texts;
 
-use crate::crypto::blocks::{try_block, try_mode};
+use crate::crypto::blocks::try_block;
 use crate::crypto::free_calls::{try_aes, try_aes_sha2, try_des};
 use crate::crypto::hashes::try_hash;
 use crate::crypto::numbers::try_number;
@@ -26,50 +26,40 @@ use crate::crypto::texts::texts_of;
 use crate::rows::{Columns, RowError};
 use std::alloc::Global;
 
-/// What the call of a row returns.
+/// What the call of a row returns: each of these has a name in one of them alone.
 fn try_row(alloc: Global, row: &Row) -> Answer {
-    match row.call {
-        "encrypt_block" | "decrypt_block" => try_block(alloc, row),
-        "encrypt_des"
-        | "decrypt_des"
-        | "swap_two_last_blocks"
-        | "encrypt_aes_cbc"
-        | "decrypt_aes_cbc"
-        | "encrypt_aes_cts"
-        | "decrypt_aes_cts" => try_mode(alloc, row),
-        "derive_key"
-        | "derive_key_from_password"
-        | "random_to_key"
-        | "encrypt_message"
-        | "decrypt_message"
-        | "encrypt_message_no_checksum"
-        | "decrypt_message_no_checksum"
-        | "checksum_sha_aes"
-        | "integrity_checksum"
-        | "keyed_checksum" => match row.suite {
-            "des3" => try_des(alloc, row),
-            "aes128" | "aes256" => try_aes(alloc, row),
-            _ => try_aes_sha2(alloc, row),
-        },
-        "checksum" | "checksum_type" => try_checksum(alloc, row),
-        "cipher_suite" | "checksum_suite" | "usage_ke" | "usage_ki" | "usage_kc" | "constants" => {
-            try_number(alloc, row)
-        }
-        "prepared encrypt" | "prepared decrypt" | "prepared checksum" | "verify" => {
-            try_prepared(alloc, row)
-        }
-        "text" => text_of(texts_of(alloc, row.suite)),
-        "n_fold"
-        | "hmac_sha1"
-        | "hmac_sha256"
-        | "hmac_sha384"
-        | "pbkdf2_hmac_sha1"
-        | "pbkdf2_hmac_sha256"
-        | "pbkdf2_hmac_sha384"
-        | "kdf_hmac_sha256"
-        | "kdf_hmac_sha384" => { try_hash(alloc, row) }
-        _ => try_suite(alloc, row),
+    if row.call == "text" {
+        return text_of(texts_of(alloc, row.suite));
     }
+    let found = try_block(alloc, row);
+    if found.is_some() {
+        return found;
+    }
+    let found = try_hash(alloc, row);
+    if found.is_some() {
+        return found;
+    }
+    let found = try_number(alloc, row);
+    if found.is_some() {
+        return found;
+    }
+    let found = try_prepared(alloc, row);
+    if found.is_some() {
+        return found;
+    }
+    let found = match row.suite {
+        "des3" => try_des(alloc, row),
+        "aes128" | "aes256" => try_aes(alloc, row),
+        _ => try_aes_sha2(alloc, row),
+    };
+    if found.is_some() {
+        return found;
+    }
+    let found = try_checksum(alloc, row);
+    if found.is_some() {
+        return found;
+    }
+    try_suite(alloc, row)
 }
 
 /// What is printed of a row.

@@ -32,21 +32,40 @@ fn written_keytab(alloc: Global, keytab: &KeytabView) -> Result<Vec<u8>, KeytabW
     Ok(out)
 }
 
-/// The same credential cache.
-fn written_ccache(alloc: Global, cache: &CcacheView) -> Result<Vec<u8>, CcacheWriteError> {
+/// A credential cache of the same header and client, without credentials.
+fn written_head(alloc: Global, cache: &CcacheView) -> Result<Vec<u8>, CcacheWriteError> {
     let header: Vec<TypedOctets> = cache.header().collect(alloc)?;
     let principal = cache.principal().collect(alloc)?;
-    let head = NewCcache {
-        version: cache.version(),
-        header: &header,
-        principal: principal.parts(),
-        credentials: &[],
-    };
-    let mut out = krb_files::ccache::write(alloc, &head)?;
+    krb_files::ccache::write(
+        alloc,
+        &NewCcache {
+            version: cache.version(),
+            header: &header,
+            principal: principal.parts(),
+            credentials: &[],
+        },
+    )
+}
+
+/// Appends the credentials of a cache.
+fn push_credentials(
+    alloc: Global,
+    out: &mut Vec<u8>,
+    cache: &CcacheView,
+) -> Result<(), CcacheWriteError> {
     for credential in cache.credentials() {
         let credential = credential.collect(alloc)?;
-        push_credential(alloc, &mut out, cache.version(), &credential.parts())?;
+        let pushed = push_credential(alloc, out, cache.version(), &credential.parts());
+        drop(credential);
+        pushed?;
     }
+    Ok(())
+}
+
+/// The same credential cache.
+fn written_ccache(alloc: Global, cache: &CcacheView) -> Result<Vec<u8>, CcacheWriteError> {
+    let mut out = written_head(alloc, cache)?;
+    push_credentials(alloc, &mut out, cache)?;
     Ok(out)
 }
 
@@ -64,20 +83,24 @@ fn written_text<E: Debug + Drop>(
     }
 }
 
+/// What is printed of a keytab or a credential cache.
+fn text_of(alloc: Global, kind: &str, octets: &[u8]) -> Result<String, AllocError> {
+    if kind == "keytab" {
+        return match KeytabView::new(octets) {
+            Ok(keytab) => written_text(alloc, written_keytab(alloc, &keytab)),
+            Err(error) => format!(in alloc; "{error:?}"),
+        };
+    }
+    match CcacheView::new(octets) {
+        Ok(cache) => written_text(alloc, written_ccache(alloc, &cache)),
+        Err(error) => format!(in alloc; "{error:?}"),
+    }
+}
+
 /// What is printed of a row.
 pub(crate) fn answer(alloc: Global, mut columns: Columns<'_>) -> Result<String, RowError> {
     let (origin, kind) = (columns.text()?, columns.text()?);
     let octets = columns.octets(alloc)?;
-    let text = if kind == "keytab" {
-        match KeytabView::new(&octets) {
-            Ok(keytab) => written_text(alloc, written_keytab(alloc, &keytab))?,
-            Err(error) => format!(in alloc; "{error:?}")?,
-        }
-    } else {
-        match CcacheView::new(&octets) {
-            Ok(cache) => written_text(alloc, written_ccache(alloc, &cache))?,
-            Err(error) => format!(in alloc; "{error:?}")?,
-        }
-    };
+    let text = text_of(alloc, kind, &octets)?;
     Ok(format!(in alloc; "{origin} {kind}\n{text}\n")?)
 }

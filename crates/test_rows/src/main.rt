@@ -41,7 +41,7 @@ pub(crate) fn report_of(
         "kdc proxy" => kdc_proxy::answer(alloc, columns),
         _ => Err(RowError::NoTable),
     }?;
-    Ok(Report::of(text))
+    Ok(Report { text, held: true })
 }
 
 fn main(rt: HostRuntime) -> io::Result<ExitCode> {

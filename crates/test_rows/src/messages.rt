@@ -20,7 +20,7 @@ mod row;
 mod trials;
 mod types;
 
-use crate::messages::formats::try_format;
+use crate::messages::formats::{frames, messages, negoex, pacs, tokens};
 use crate::messages::refusal::Refusal;
 use crate::messages::row::{Attempt, Row, Trial};
 use crate::messages::types::try_type;
@@ -78,7 +78,11 @@ pub fn report_of(alloc: Global, table: &str, mut columns: Columns<'_>) -> Result
     };
     let attempt = match table {
         "types" => try_type(&row),
-        _ => try_format(table, &row),
+        "messages" => messages::try_message(&row),
+        "frames" => frames::try_frame(&row),
+        "tokens" => tokens::try_token(&row),
+        "negoex" => negoex::try_negoex(&row),
+        _ => pacs::try_pac(&row),
     };
     let held = push_findings(&mut text, origin, attempt)?;
     text.push_str("\n")?;

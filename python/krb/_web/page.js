@@ -237,7 +237,7 @@ function verdict(line) {
     if (line.name === "not-opened") return "bad";
     if (!line.name.endsWith("-checksum")) return "";
     if (line.value === "holds") return "good";
-    return line.value === "absent" ? "" : "bad";
+    return line.value === "absent" || line.value.includes("not verified: ") ? "" : "bad";
 }
 
 function localOf(value) {

@@ -2,9 +2,9 @@
 
 ghost use Rattle.std.specs.Prelude.{MatchResult};
 ghost use Rattle.krb_c_calls.specs.Statuses.{refusal_status};
-ghost use Rattle.krb_c_calls.specs.MessageRules.{IsEncoding, IsReading, RefusesReading};
+ghost use Rattle.krb_c_calls.specs.MessageRules.{IsEncoding, RefusesReading};
 
-use crate::call_error::{CallError, DONE};
+use crate::call_error::CallError;
 use krb_der::{Der, DerEncode, from_bytes};
 use std::alloc::Global;
 
@@ -14,15 +14,4 @@ pub fn checked<T: Der + Drop>(alloc: Global, octets: &[u8]) -> Result<(), CallEr
 {
     let _value: T = from_bytes(alloc, octets)?;
     Ok(())
-}
-
-/// Whether the octets are the one encoding of a value (X.690, 10). 0 where they are; 2 where memory was wanting; else 9, 10 or 11, as their
-/// first error is.
-pub fn read<T: Der + Drop>(alloc: Global, octets: &[u8]) -> u32
-    ensures { IsReading ⟦<T as DerEncode>⟧ octets.now result }
-{
-    match checked::<T>(alloc, octets) {
-        Ok(()) => DONE,
-        Err(refusal) => refusal.status(),
-    }
 }

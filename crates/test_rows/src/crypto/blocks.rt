@@ -1,6 +1,6 @@
 //! Blocks, and their modes.
 
-use crate::crypto::row::{Answer, Row, answer_of, block_of, copied, size_of};
+use crate::crypto::row::{Answer, Row, answer_of, block_of, copied, size_of, text_of};
 use krb_crypto_aes_tables::agree;
 use picky_krb::crypto::KerberosCryptoResult;
 use picky_krb::crypto::aes::{
@@ -10,44 +10,52 @@ use picky_krb::crypto::aes::{
 use picky_krb::crypto::des::{DesKey, decrypt_des, encrypt_des};
 use std::alloc::Global;
 
-/// What AES by vector permutes makes of a block, and whether AES by word tables makes another of it in either direction.
+/// What AES by vector permutes makes of a block; `None` where AES by word tables makes another of it in either direction.
 fn by_aes(
     alloc: Global,
     row: &Row,
     size: &AesSize,
     block: [u8; 16],
-) -> KerberosCryptoResult<String> {
+) -> KerberosCryptoResult<Option<Vec<u8>>> {
     let permutes = AesKey::new(&row.key, size)?;
     let tables = AesTableKey::new(&row.key, size)?;
+    if !agree(&tables, &permutes, block) {
+        return Ok(None);
+    }
     let made = if row.call == "encrypt_block" {
         permutes.encrypt_block(block)
     } else {
         permutes.decrypt_block(block)
     };
-    let mut text = hex::encode(alloc, &made)?;
-    if !agree(&tables, &permutes, block) {
-        text.push_str(", and another by word tables")?;
-    }
-    Ok(text)
+    Ok(Some(copied(alloc, &made)?))
 }
 
 /// What triple DES makes of a block.
-fn by_des(alloc: Global, row: &Row, block: [u8; 8]) -> KerberosCryptoResult<String> {
+fn by_des(alloc: Global, row: &Row, block: [u8; 8]) -> KerberosCryptoResult<Option<Vec<u8>>> {
     let key = DesKey::new(&row.key)?;
     let made = if row.call == "encrypt_block" {
         key.encrypt_block(block)
     } else {
         key.decrypt_block(block)
     };
-    Ok(hex::encode(alloc, &made)?)
+    Ok(Some(copied(alloc, &made)?))
 }
 
-/// Calls of a block (FIPS 197, FIPS 46-3).
+/// Calls of a block (FIPS 197, FIPS 46-3), or of a mode.
 pub fn try_block(alloc: Global, row: &Row) -> Answer {
-    if row.suite == "des3" {
-        return Some(by_des(alloc, row, block_of(&row.input)?));
+    if row.call != "encrypt_block" && row.call != "decrypt_block" {
+        return try_mode(alloc, row);
     }
-    Some(by_aes(alloc, row, &size_of(row.suite)?, block_of(&row.input)?))
+    let made = if row.suite == "des3" {
+        by_des(alloc, row, block_of(&row.input)?)
+    } else {
+        by_aes(alloc, row, &size_of(row.suite)?, block_of(&row.input)?)
+    };
+    match made {
+        Ok(Some(block)) => answer_of(alloc, Ok(block)),
+        Ok(None) => text_of(String::from_str(alloc, "another by word tables")),
+        Err(rejection) => Some(Err(rejection)),
+    }
 }
 
 /// The octets with their last two blocks in each other's place.
@@ -58,7 +66,7 @@ fn swapped(alloc: Global, octets: &[u8]) -> KerberosCryptoResult<Vec<u8>> {
 }
 
 /// Calls of a mode (RFC 3962, 5 and 6; RFC 3961, 6.3).
-pub fn try_mode(alloc: Global, row: &Row) -> Answer {
+fn try_mode(alloc: Global, row: &Row) -> Answer {
     let (key, input) = (&row.key, &row.input);
     let octets = match row.call {
         "encrypt_des" => encrypt_des(alloc, key, input),

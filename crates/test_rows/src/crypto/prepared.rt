@@ -7,7 +7,14 @@ use std::alloc::Global;
 
 /// What the octets are decrypted to.
 fn opened(alloc: Global, suite: &CipherSuite, row: &Row) -> KerberosCryptoResult<Vec<u8>> {
-    OpeningKey::new(suite, &row.key, row.number)?.decrypt(alloc, &row.input)
+    match OpeningKey::new(suite, &row.key, row.number) {
+        Ok(key) => {
+            let opened = key.decrypt(alloc, &row.input);
+            drop(key);
+            opened
+        }
+        Err(rejection) => Err(rejection),
+    }
 }
 
 /// Calls over a prepared key of a cipher.
@@ -28,6 +35,10 @@ fn try_cipher(alloc: Global, suite: &CipherSuite, row: &Row) -> Answer {
 
 /// Calls over a prepared key, of a cipher or a checksum.
 pub fn try_prepared(alloc: Global, row: &Row) -> Answer {
+    match row.call {
+        "prepared encrypt" | "prepared decrypt" | "prepared checksum" | "verify" => {}
+        _ => return None,
+    }
     let number = row.suite.parse::<usize>().ok()?;
     if row.call == "prepared encrypt" || row.call == "prepared decrypt" {
         return try_cipher(alloc, &CipherSuite::try_from(number).ok()?, row);

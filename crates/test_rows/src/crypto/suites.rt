@@ -124,6 +124,9 @@ fn sum_of(alloc: Global, checksum: &dyn Checksum, row: &Row) -> Answer {
 
 /// Calls of the checksum of this name or number.
 pub fn try_checksum(alloc: Global, row: &Row) -> Answer {
+    if row.call != "checksum" && row.call != "checksum_type" {
+        return None;
+    }
     match row.suite {
         "aes128" => sum_of(alloc, &HmacSha196Aes128, row),
         "aes256" => sum_of(alloc, &HmacSha196Aes256, row),

@@ -16,21 +16,10 @@ fn interrupt(calls: usize) -> io::Result<()> {
 pub struct Source<'a> {
     pub left: &'a [u8],
     /// The most octets that a read gives.
-    at_once: usize,
+    pub at_once: usize,
     /// How many reads come before the one that fails, if one does.
-    failing: Option<usize>,
+    pub failing: Option<usize>,
     pub reads: usize,
-}
-
-impl<'a> Source<'a> {
-    pub fn new(left: &'a [u8], at_once: usize, failing: Option<usize>) -> Source<'a> {
-        Source {
-            left,
-            at_once,
-            failing,
-            reads: 0,
-        }
-    }
 }
 
 impl<'a> Read for Source<'a> {
@@ -53,19 +42,9 @@ impl<'a> Read for Source<'a> {
 #[derive(Drop)]
 pub struct Sink {
     pub taken: Vec<u8>,
-    room: usize,
-    writes: usize,
-}
-
-impl Sink {
-    /// A writer with room for so many octets, which it keeps in an empty vector.
-    pub fn new(taken: Vec<u8>, room: usize) -> Sink {
-        Sink {
-            taken,
-            room,
-            writes: 0,
-        }
-    }
+    /// How many octets it has room for.
+    pub room: usize,
+    pub writes: usize,
 }
 
 impl Write for Sink {

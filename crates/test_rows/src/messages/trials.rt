@@ -88,7 +88,11 @@ fn try_writing<F: Format>(
 /// all gets them.
 fn is_sent<F: Format>(alloc: Global, value: &F::Value, octets: &[u8]) -> bool {
     for room in 0..=octets.len() {
-        let mut sink = Sink::new(Vec::new(alloc), room);
+        let mut sink = Sink {
+            taken: Vec::new(alloc),
+            room,
+            writes: 0,
+        };
         let is_as_told = match F::write_to(alloc, value, &mut sink) {
             Ok(()) => room == octets.len(),
             Err(error) => room < octets.len() && error.io_kind() == Some(ErrorKind::BrokenPipe),
@@ -153,7 +157,12 @@ pub fn tried_slowly<F: Format>(row: &Row<'_>) -> Result<Findings, Refusal> {
 /// Whether readers of each pace give an equal value, and leave so many octets.
 fn is_streamed<F: Format>(row: &Row<'_>, value: &F::Value, left: usize) -> bool {
     for at_once in PACES {
-        let mut source = Source::new(row.octets, at_once, None);
+        let mut source = Source {
+            left: row.octets,
+            at_once,
+            failing: None,
+            reads: 0,
+        };
         let Ok(read) = F::read_from(row.alloc, row.octets, &mut source) else {
             return false;
         };
@@ -164,24 +173,29 @@ fn is_streamed<F: Format>(row: &Row<'_>, value: &F::Value, left: usize) -> bool 
     true
 }
 
-/// Whether a call returned the error of a device.
-fn is_broken_pipe<V, E: Rejection>(outcome: &Result<V, E>) -> bool {
-    match outcome {
-        Ok(_) => false,
-        Err(error) => error.io_kind() == Some(ErrorKind::BrokenPipe),
-    }
-}
-
 /// Whether the error of a reader of one octet at a time is returned, at each read in turn.
 fn is_faulted<F: Format>(row: &Row<'_>) -> bool {
-    let mut all = Source::new(row.octets, 1, None);
+    let mut all = Source {
+        left: row.octets,
+        at_once: 1,
+        failing: None,
+        reads: 0,
+    };
     if F::read_from(row.alloc, row.octets, &mut all).is_err() {
         return false;
     }
     for turn in 0..all.reads {
-        let mut source = Source::new(row.octets, 1, Some(turn));
-        let outcome = F::read_from(row.alloc, row.octets, &mut source);
-        if !is_broken_pipe(&outcome) {
+        let mut source = Source {
+            left: row.octets,
+            at_once: 1,
+            failing: Some(turn),
+            reads: 0,
+        };
+        let is_told = match F::read_from(row.alloc, row.octets, &mut source) {
+            Ok(_) => false,
+            Err(error) => error.io_kind() == Some(ErrorKind::BrokenPipe),
+        };
+        if !is_told {
             return false;
         }
     }

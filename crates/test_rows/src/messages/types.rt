@@ -1,7 +1,6 @@
 //! The types of DER, by their names.
 
 mod certificates;
-mod delegation;
 pub mod encoded;
 mod messages;
 mod negotiation;
@@ -12,7 +11,6 @@ mod shared;
 
 use crate::messages::row::{Attempt, Row};
 use certificates::try_certificate;
-use delegation::try_delegated;
 use messages::try_message;
 use negotiation::try_negotiation;
 use parts::try_part;
@@ -40,8 +38,5 @@ pub fn try_type(row: &Row<'_>) -> Attempt {
     if let Some(found) = try_certificate(row) {
         return Some(found);
     }
-    if let Some(found) = try_negotiation(row) {
-        return Some(found);
-    }
-    try_delegated(row)
+    try_negotiation(row)
 }

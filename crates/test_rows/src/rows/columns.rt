@@ -8,15 +8,11 @@ use std::str::FromStr;
 /// The columns of a row that are not taken yet.
 #[derive(Clone, Copy)]
 pub struct Columns<'a> {
-    left: Option<&'a str>,
+    /// All of a row at first: what stands between its tabs.
+    pub(super) left: Option<&'a str>,
 }
 
 impl<'a> Columns<'a> {
-    /// All columns of a row: what stands between its tabs.
-    pub fn of(row: &'a str) -> Columns<'a> {
-        Columns { left: Some(row) }
-    }
-
     /// Takes the next column. `NoColumn` where none is left.
     pub fn text(&mut self) -> Result<&'a str, RowError> {
         let Some(left) = self.left else {

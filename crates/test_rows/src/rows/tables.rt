@@ -1,7 +1,5 @@
 //! What is printed of the rows on standard input.
 
-ghost use Rattle.std.specs.Prelude.{◌≡◌, IsTrue};
-
 use crate::report_of;
 use crate::rows::columns::Columns;
 use crate::rows::error::RowError;
@@ -17,19 +15,9 @@ pub struct Report {
     pub held: bool,
 }
 
-impl Report {
-    /// A text that tells by itself: it is compared with the one that is expected.
-    pub fn of(text: String) -> Report
-        ensures text { result.text ≡ text }
-        ensures held { IsTrue result.held }
-    {
-        Report { text, held: true }
-    }
-}
-
 /// What the program prints of a line that is a row of the table, or that it is none.
 fn report_of_line(alloc: Global, table: &str, row: &str) -> io::Result<Report> {
-    match report_of(alloc, table, Columns::of(row)) {
+    match report_of(alloc, table, Columns { left: Some(row) }) {
         Ok(report) => Ok(report),
         Err(RowError::OutOfMemory) => Err(io::Error::from(ErrorKind::OutOfMemory)),
         Err(error) => {

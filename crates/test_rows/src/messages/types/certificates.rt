@@ -2,6 +2,10 @@
 
 use crate::messages::row::{Attempt, Row};
 use crate::messages::types::encoded::findings_of;
+use krb_credssp::credssp::{
+    TsCredentials, TsCspDataDetail, TsPasswordCreds, TsRemoteGuardCreds, TsRemoteGuardPackageCred,
+    TsSmartCardCreds,
+};
 use krb_der::Asn1SequenceOf;
 use krb_der_x509::{AlgorithmIdentifier, SubjectPublicKeyInfo};
 use krb_pkinit::pkinit::{
@@ -44,6 +48,12 @@ fn try_pku2u(row: &Row<'_>) -> Attempt {
         "DhRepInfo" => findings_of::<DhRepInfo>(row),
         "KdcDhKeyInfo" => findings_of::<KdcDhKeyInfo>(row),
         "PaPkAsRep" => findings_of::<PaPkAsRep>(row),
+        "TsCredentials" => findings_of::<TsCredentials>(row),
+        "TsCspDataDetail" => findings_of::<TsCspDataDetail>(row),
+        "TsPasswordCreds" => findings_of::<TsPasswordCreds>(row),
+        "TsRemoteGuardCreds" => findings_of::<TsRemoteGuardCreds>(row),
+        "TsRemoteGuardPackageCred" => findings_of::<TsRemoteGuardPackageCred>(row),
+        "TsSmartCardCreds" => findings_of::<TsSmartCardCreds>(row),
         _ => return None,
     })
 }

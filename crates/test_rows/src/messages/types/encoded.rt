@@ -55,36 +55,72 @@ pub fn findings_of<T: Der + Debug + PartialEq + Drop>(row: &Row<'_>) -> Result<F
 fn try_encoding<T: Der + Debug + PartialEq + Drop>(
     row: &Row<'_>,
 ) -> Result<Findings, Asn1DerError> {
-    let (alloc, octets) = (row.alloc, row.octets);
-    let value: T = from_bytes(alloc, octets)?;
-    let mut found = Findings::new(alloc);
-    found.decide("written", to_vec(alloc, &value)?.as_slice() == octets)?;
+    let value: T = from_bytes(row.alloc, row.octets)?;
+    let mut found = Findings::new(row.alloc);
+    let outcome = push_found(row, &value, &mut found);
+    drop(value);
+    match outcome {
+        Ok(()) => Ok(found),
+        Err(error) => {
+            drop(found);
+            Err(error)
+        }
+    }
+}
+
+/// Adds what holds of the octets and of their value.
+fn push_found<T: Der + Debug + PartialEq + Drop>(
+    row: &Row<'_>,
+    value: &T,
+    found: &mut Findings,
+) -> Result<(), Asn1DerError> {
+    found.decide("written", is_written(row, value)?)?;
     if row.trial == Trial::Whole {
-        found.decide("cut", is_cut::<T>(alloc, octets))?;
+        found.decide("cut", is_cut::<T>(row.alloc, row.octets))?;
     }
     if row.trial != Trial::Once {
-        let mut longer = Vec::from_slice(alloc, octets)?;
+        let mut longer = Vec::from_slice(row.alloc, row.octets)?;
         longer.push(0)?;
         let is_refused = matches!(
-            from_bytes::<T>(alloc, &longer),
+            from_bytes::<T>(row.alloc, &longer),
             Err(Asn1DerError::InvalidData)
         );
+        drop(longer);
         found.decide("longer", is_refused)?;
     }
-    let again = copy(alloc, &value)?;
-    let copied = again == value && to_vec(alloc, &again)?.as_slice() == octets;
-    found.decide("copied", copied)?;
-    let mut appended = Vec::from_slice(alloc, &OTHERS)?;
-    again.write(alloc, &mut appended)?;
-    found.decide(
-        "kept",
-        appended.strip_prefix(OTHERS.as_slice()) == Some(octets),
-    )?;
+    push_copied(row, value, found)?;
     if !row.text.is_empty() {
-        let text = format!(in alloc; "{value:?}")?;
-        found.decide("shown", text.as_str() == row.text)?;
+        let is_shown = format!(in row.alloc; "{value:?}")?.as_str() == row.text;
+        found.decide("shown", is_shown)?;
     }
-    Ok(found)
+    Ok(())
+}
+
+/// Whether writing a value gives the octets.
+fn is_written<T: Der>(row: &Row<'_>, value: &T) -> Result<bool, Asn1DerError> {
+    Ok(to_vec(row.alloc, value)?.as_slice() == row.octets)
+}
+
+/// Whether a vector keeps the octets before those that a call appends.
+fn is_kept<T: Der>(row: &Row<'_>, value: &T) -> Result<bool, Asn1DerError> {
+    let mut appended = Vec::from_slice(row.alloc, &OTHERS)?;
+    value.write(row.alloc, &mut appended)?;
+    Ok(appended.strip_prefix(OTHERS.as_slice()) == Some(row.octets))
+}
+
+/// Adds what holds of a copy of the value.
+fn push_copied<T: Der + PartialEq + Drop>(
+    row: &Row<'_>,
+    value: &T,
+    found: &mut Findings,
+) -> Result<(), Asn1DerError> {
+    let again = copy(row.alloc, value)?;
+    let (is_equal, written) = (again == *value, is_written(row, &again));
+    let kept = is_kept(row, &again);
+    drop(again);
+    found.decide("copied", is_equal && written?)?;
+    found.decide("kept", kept?)?;
+    Ok(())
 }
 
 /// Whether each proper prefix is `TruncatedData`.

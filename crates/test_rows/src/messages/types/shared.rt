@@ -9,8 +9,8 @@ use krb_types::data_types::{
     PrincipalName, Realm, Ticket, TicketInner, TransitedEncoding,
 };
 
-/// Reads the octets as a primitive type, or a sequence of these, of this name, and returns the findings. `None` where no type has the
-/// name.
+/// Reads the octets as a primitive type, a list or a sequence that holds one, or a sequence of primitive types, of this name, and returns the findings. `None` where no type
+/// has the name.
 pub fn try_shared(row: &Row<'_>) -> Attempt {
     Some(match row.name {
         "ApOptions" => findings_of::<ApOptions>(row),
@@ -19,6 +19,19 @@ pub fn try_shared(row: &Row<'_>) -> Attempt {
         "KerberosTime" => findings_of::<KerberosTime>(row),
         "Microseconds" => findings_of::<Microseconds>(row),
         "Realm" => findings_of::<Realm>(row),
+        "AuthorizationData" => findings_of::<AuthorizationData>(row),
+        "ChangePasswdData" => findings_of::<ChangePasswdData>(row),
+        "HostAddresses" => findings_of::<HostAddresses>(row),
+        "LastReq" => findings_of::<LastReq>(row),
+        "Ticket" => findings_of::<Ticket>(row),
+        "TicketInner" => findings_of::<TicketInner>(row),
+        _ => return try_sequence(row),
+    })
+}
+
+/// Reads the octets as a sequence of these, of this name, and returns the findings.
+fn try_sequence(row: &Row<'_>) -> Attempt {
+    Some(match row.name {
         "AuthorizationDataInner" => findings_of::<AuthorizationDataInner>(row),
         "Checksum" => findings_of::<Checksum>(row),
         "EncryptedData" => findings_of::<EncryptedData>(row),
@@ -28,19 +41,6 @@ pub fn try_shared(row: &Row<'_>) -> Attempt {
         "LastReqInner" => findings_of::<LastReqInner>(row),
         "PrincipalName" => findings_of::<PrincipalName>(row),
         "TransitedEncoding" => findings_of::<TransitedEncoding>(row),
-        _ => return try_list(row),
-    })
-}
-
-/// Reads the octets as a list, or a sequence that holds one, of this name, and returns the findings.
-fn try_list(row: &Row<'_>) -> Attempt {
-    Some(match row.name {
-        "AuthorizationData" => findings_of::<AuthorizationData>(row),
-        "ChangePasswdData" => findings_of::<ChangePasswdData>(row),
-        "HostAddresses" => findings_of::<HostAddresses>(row),
-        "LastReq" => findings_of::<LastReq>(row),
-        "Ticket" => findings_of::<Ticket>(row),
-        "TicketInner" => findings_of::<TicketInner>(row),
         _ => return None,
     })
 }

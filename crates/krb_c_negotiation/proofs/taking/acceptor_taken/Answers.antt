@@ -1,0 +1,15 @@
+use Rattle.std.proofs.Common.{inl, inr}
+use Rattle.krb_c_negotiation.proofs.Results.{both_map}
+use Rattle.krb_c_negotiation.proofs.taking.acceptor_taken.Goals as goal
+
+pub returns-in-Err : goal.returns-in-Err
+returns-in-Err c = inr (inr (c.in_ok-mechanisms.mechanisms, (c.in_ok-mechanisms.ensures, c.in-Err.ensures)))
+
+pub returns-in-Ok : goal.returns-in-Ok
+returns-in-Ok c =
+    both_map c.told.result
+    (λ taken is. (
+      c.in_ok-mechanisms.mechanisms,
+      (c.in_ok-mechanisms.ensures, (c.in-Ok.acceptor, (c.in-Ok.ensures, (c.acceptor_asks.result, (c.acceptor_asks.ensures, is))))),
+    ))
+    (λ e memory. inl memory) c.told.ensures
