@@ -13,8 +13,9 @@ DONE, ROOM, MEMORY, UNLESS_REPEATED = 0, 1, 2, 43
 UNTOUCHED = 0xA5
 # How many allocations these calls make at most.
 MOST = {"encrypt": 4, "decrypt": 4, "n_fold": 1}
-# A struct that the caller passes in and takes back.
-CHANGED = ("krb_exchange",)
+# Structs that the caller passes in and takes back; those of a negotiation are as they were where a
+# call refuses.
+CHANGED = ("krb_exchange", "krb_negotiation", "krb_negotiation_question", "krb_negotiation_reply")
 
 Parameter = collections.namedtuple("Parameter", "what name kind")
 

@@ -110,7 +110,7 @@ taken_name mechanisms proposal =
 
 abbrev pub IsNameInOffer : EncodingOf GssApiNegInit → EncodingOf (List (List ℕ)) → Fresh Told → List ℕ → Option (Vec ℕ Global) → Type 0
 IsNameInOffer o l side octets name =
-    ((e : ReadError) × (RejectsOffer o octets e × (name ≡ None)))
+    ((e : ReadError) × (RejectsOffer o octets e × ((e ≡ errors.OutOfMemory → ⊥) × (name ≡ None))))
     ⊎ ((proposal : Proposal) × (ReadsOffer o l octets proposal × (items_in name ≡ taken_name side.mechanisms.items proposal)))
 
 abbrev pub IsNameTaken : EncodingOf GssApiNegInit → EncodingOf (List (List ℕ)) → Acceptor Told → List ℕ → Option (Vec ℕ Global) → Type 0

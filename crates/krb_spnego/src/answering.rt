@@ -269,7 +269,10 @@ fn name_in_offer(
 {
     match read_offer(alloc, token) {
         Ok(proposal) => name_of(alloc, &fresh.mechanisms, &proposal),
-        Err(_) => Ok(None),
+        Err(ReadError::OutOfMemory) => Err(AllocError),
+        Err(ReadError::Malformed(_)) => Ok(None),
+        Err(ReadError::NotSpnego) => Ok(None),
+        Err(ReadError::UnknownState) => Ok(None),
     }
 }
 
