@@ -982,7 +982,7 @@ krb_status krb_negotiation_take(const krb_negotiation *side, const uint8_t *name
 
 /* A side makes the step that octets of the peer's ask for. `mechanism` is the number of the mechanism that is told of, `progress` what it made of the token, and
    `token` its own token; `verified` is the peer's MIC, where the mechanism verified that it holds of `list`, and `mic` this side's MIC over `list`, where it is
-   known that one is sent: each is empty else.
+   known that one is sent: each is empty else. Of an offer `list` is the one that krb_negotiation_take told of it.
    KRB_DONE: the side is the one after the step, and *reply says whether something is sent; or it says that a MIC lacks, and the side is as it was.
    KRB_NUMBER, KRB_INVALID, KRB_TRUNCATED, KRB_UNSUPPORTED as above, KRB_NUMBER of `progress` too; KRB_ROOM, KRB_MEMORY. Then *side and *reply are as they were. `reply`
    and `side` overlap nothing else that is passed. */

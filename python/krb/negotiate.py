@@ -181,7 +181,9 @@ class Negotiator:
         lacks_mic, sent = answer(self._side, given, listed, octets, told)
         if lacks_mic:
             mic = self._mechanisms[told.mechanism].make_mic(listed)
-            _, sent = answer(self._side, given, listed, octets, told._replace(mic=mic))
+            lacks_mic, sent = answer(self._side, given, listed, octets, told._replace(mic=mic))
+            if lacks_mic:
+                raise ValueError("a mechanism made a MIC of no octets")
         self._list = listed
         if self._side.stage == Stage.FAILED:
             raise self._refusal(sent or b"", cause) from cause

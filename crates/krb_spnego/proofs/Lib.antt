@@ -6,3 +6,4 @@ pub mod Refusals
 pub mod Verifying
 pub mod Picking
 pub mod Retold
+pub mod Agrees

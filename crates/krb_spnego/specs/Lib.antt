@@ -9,3 +9,4 @@ pub mod Told
 pub mod Asking
 pub mod Answering
 pub mod Retelling
+pub mod Agreeing

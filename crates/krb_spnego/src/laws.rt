@@ -3,6 +3,16 @@
 
 ghost use Rattle.std.specs.Prelude.{◌≡◌, ◌++◌, ◌∷◌, [], ℕ, List, Option, false};
 ghost use Rattle.krb_spnego.specs.Hearing.{AcceptorHears, InitiatorHears, IsAcceptorAfter, IsAcceptorAfterOffer, IsInitiatorAfter};
+ghost use Rattle.krb_spnego.specs.Agreeing.{FirstReplyAgrees, LaterAgrees, OfferAgrees, offered_name};
+ghost use Rattle.krb_spnego.specs.Asking.{first_reply_asks, later_asks, offer_asks};
+ghost use Rattle.krb_spnego_rules.specs.AcceptorSteps.{IsOffered};
+ghost use Rattle.krb_spnego_rules.specs.InitiatorSteps.{Replied};
+ghost use Rattle.krb_spnego_rules.specs.Steps.{Later, Outcome};
+ghost use Rattle.krb_spnego_rules.specs.declared.initiator.Offered.{Offered as OfferedOf};
+ghost use Rattle.krb_spnego_rules.specs.declared.message.Message.{Message as MessageOf};
+ghost use Rattle.krb_spnego_rules.specs.declared.message.Proposal.{Proposal as ProposalOf};
+ghost use Rattle.krb_spnego_rules.specs.declared.side.Running.{Running as RunningOf};
+ghost use Rattle.krb_spnego_rules.specs.declared.words.Role.{Role};
 ghost use Rattle.krb_spnego.specs.Retelling.{AcceptorIsTold, InitiatorIsTold};
 ghost use Rattle.krb_spnego.specs.Told.{told_meaning};
 ghost use Rattle.krb_spnego.specs.declared.told.Told.{Told as ToldOf};
@@ -102,3 +112,17 @@ pub fn told_acceptor()
 {
     acceptor_is_justified::<Told>();
 }
+
+/// What `acceptor_asks` and `initiator_asks` tell of a message is what the step then asks of the
+/// mechanisms: where they refuse, the machine fails so, whatever is told; else it goes on with just
+/// this mechanism, which steps or not, with this token and this MIC.
+pub fn questions()
+    ensures later { (role : Role) (side : RunningOf ToldOf) (message : MessageOf) (out : Outcome ToldOf)
+        → Later told_meaning role side message out → LaterAgrees role side message out (later_asks side message) }
+    ensures offer { (fresh : FreshOf ToldOf) (proposal : ProposalOf) (out : Outcome ToldOf)
+        → IsOffered told_meaning fresh proposal out
+        → OfferAgrees (offered_name fresh proposal) proposal out (offer_asks fresh proposal) }
+    ensures first_reply { (offered : OfferedOf ToldOf) (message : MessageOf) (out : Outcome ToldOf)
+        → Replied told_meaning offered message out
+        → FirstReplyAgrees offered.established offered.list message out (first_reply_asks offered message) }
+{}
