@@ -7,6 +7,7 @@ from typing import Any, Callable, NamedTuple, Optional, Tuple, Union
 
 from krb import frames, messages
 from krb._context import EncryptionKey
+from krb._der import element, integer
 from krb._exchange import AP_MUTUAL, AP_SEQUENCE, ClientRule, Follows, NotGranted, ap_reply, ap_request
 from krb._items import Secret
 from krb._kdc import Address, Kdcs, Named
@@ -52,33 +53,18 @@ class _Came(NamedTuple):
     follows: Follows = Follows.GRANTED
 
 
-# DER (X.690), of what is sent; the library refuses to seal or to frame what is not the one encoding.
-
-
-def _element(tag: int, content: bytes) -> bytes:
-    size = len(content)
-    if size < 128:
-        return bytes([tag, size]) + content
-    digits = size.to_bytes((size.bit_length() + 7) // 8, "big")
-    return bytes([tag, 128 + len(digits)]) + digits + content
-
-
-def _integer(number: int) -> bytes:
-    return _element(2, number.to_bytes(number.bit_length() // 8 + 1, "big"))
-
-
 def _fields(tag: int, *fields: Tuple[int, bytes]) -> bytes:
-    return _element(tag, _element(0x30, b"".join(_element(0xA0 + number, content) for number, content in fields)))
+    return element(tag, element(0x30, b"".join(element(0xA0 + number, content) for number, content in fields)))
 
 
 def _private(key: EncryptionKey, now: Tuple[int, int], sequence_number: int, address: Tuple[int, bytes], text: bytes) -> bytes:
     """The KRB-PRIV of a text (RFC 4120, 5.7.1)."""
     stamp = time.strftime("%Y%m%d%H%M%SZ", time.gmtime(now[0])).encode("ascii")
-    host = _element(0x30, _element(0xA0, _integer(address[0])) + _element(0xA1, _element(4, address[1])))
-    fields = (0, _element(4, text)), (1, _element(0x18, stamp)), (2, _integer(now[1])), (3, _integer(sequence_number)), (4, host)
+    host = element(0x30, element(0xA0, integer(address[0])) + element(0xA1, element(4, address[1])))
+    fields = (0, element(4, text)), (1, element(0x18, stamp)), (2, integer(now[1])), (3, integer(sequence_number)), (4, host)
     sealed = messages.seal(messages.Part.PRIV_PART, key.etype, key.octets, _PRIV_USAGE, _fields(0x7C, *fields))
-    data = _element(0x30, _element(0xA0, _integer(key.etype)) + _element(0xA2, _element(4, sealed)))
-    return _fields(0x75, (0, _integer(5)), (1, _integer(21)), (3, data))
+    data = element(0x30, element(0xA0, integer(key.etype)) + element(0xA2, element(4, sealed)))
+    return _fields(0x75, (0, integer(5)), (1, integer(21)), (3, data))
 
 
 def _own_address(address: Address) -> Tuple[int, bytes]:

@@ -5,6 +5,7 @@ A mechanism is the content of its OBJECT IDENTIFIER, as `KERBEROS` and `SPNEGO` 
 import enum
 from typing import Dict, Iterable, List, NamedTuple, Optional, Union
 
+from krb._der import element
 from krb._items import Form, Item, items
 from krb._library import IN, SIZE_OUT, U32, Call, Octets, Refused, Status, plain
 
@@ -121,21 +122,14 @@ def neg_token_resp(octets: Octets) -> NegTokenResp:
 _make_init = Call("krb_make_neg_token_init", IN, IN, IN, has_room=True)
 
 
-def _element(tag: int, content: bytes) -> bytes:
-    """The element of this tag and content (X.690, 8.1.3 and 10.1)."""
-    size = len(content)
-    digits = size.to_bytes((size.bit_length() + 7) // 8, "big")
-    return bytes([tag]) + (bytes([size]) if size < 128 else bytes([128 + len(digits)]) + digits) + content
-
-
 def _identifier(mechanism: Octets) -> bytes:
     """The OBJECT IDENTIFIER of this content."""
-    return _element(0x06, plain(mechanism))
+    return element(0x06, plain(mechanism))
 
 
 def _sequence(content: bytes) -> bytes:
     """The SEQUENCE of this content."""
-    return _element(0x30, content)
+    return element(0x30, content)
 
 
 def make_neg_token_init(mechanisms: Iterable[Octets], mech_token: Octets = b"", mech_list_mic: Octets = b"") -> bytes:
