@@ -47,7 +47,7 @@ def try_header(scratch):
     copy = os.path.join(scratch, "compared")
     os.makedirs(os.path.join(copy, "include"))
     os.makedirs(os.path.join(copy, "crates"))
-    for crate in ("krb_c", "krb_c_client", "krb_c_pages", "krb_registry"):
+    for crate in ("krb_c", "krb_c_client", "krb_c_negotiation", "krb_c_pages", "krb_registry"):
         os.symlink(os.path.join(TOP, "crates", crate), os.path.join(copy, "crates", crate))
     for folder in (("crates", "krb_c_calls", "src"), ("crates", "krb_c_accept", "src"), ("python", "krb")):
         shutil.copytree(os.path.join(TOP, *folder), os.path.join(copy, *folder))
