@@ -100,6 +100,10 @@ class Server:
                 self.end_headers()
                 self.wfile.write(b"lie\n")
 
+            def do_POST(self):
+                self.rfile.read(int(self.headers["Content-Length"]))
+                self.do_GET()
+
             def log_message(self, *words):
                 pass
 
@@ -147,6 +151,8 @@ def try_redirects(realm, site):
             expect(found[0] == 401 and [came for _, came in other.kept] == [None], "a redirect to another host, which gets no token: %s" % (found,))
             found = by_requests(server.url + "there", NegotiateAuth(realm.cache))
             expect(found == (200, page_of("ann")), "a redirect to another port of the host: %s" % (found,))
+            found = by_requests(server.url + "there", NegotiateAuth(realm.cache), io.BytesIO(b"a file"))
+            expect(found == (200, page_of("ann")), "a redirect of a POST, which has no body any more: %s" % (found,))
 
 
 def try_bodies(realm, site):

@@ -141,6 +141,24 @@ def raised(call):
     return None
 
 
+def try_tick(path):
+    """A keytab that is written twice in one tick of the clock, by which files have their times."""
+    with open(path, "r+b") as file:
+        octets = file.read()
+        acceptor = krb.Acceptor(octets, replay_cache=False)
+        for n in range(300):
+            for last in (n & 255, n + 1 & 255):
+                file.seek(0)
+                file.write(octets[:-1] + bytes([last]))
+                file.flush()
+                if last == n & 255:
+                    acceptor = krb.Acceptor(path, replay_cache=False)
+            if not acceptor.reload_if_changed():
+                expect(False, "a keytab that was written twice in one tick, time %d" % n)
+                return
+    expect(True, "")
+
+
 def try_reload(realm):
     """A keytab that changes: what is told, and whether its own keys are known."""
     path, good = realm.path("changing"), realm.keytab
@@ -154,10 +172,14 @@ def try_reload(realm):
     expect(not acceptor.reload_if_changed(), "a keytab that was touched: its keys are the same")
     shutil.copy(realm.path("fewer"), path)
     expect(acceptor.reload_if_changed() and not acceptor.reload_if_changed(), "a keytab that was written")
+    time.sleep(1.1)
+    expect(not acceptor.reload_if_changed(), "a keytab that was written, a second later")
     shutil.copy(good, path + "-new")
     os.utime(path + "-new", ns=(os.stat(path).st_atime_ns, os.stat(path).st_mtime_ns))
     os.replace(path + "-new", path)
+    time.sleep(1.1)
     expect(acceptor.reload_if_changed(), "a keytab that was replaced by one of the same time")
+    try_tick(path)
     for octets, wanted in ((b"no keytab", "Refused"), (b"", "Refused"), (b"\5\2", "Refused")):
         with open(path, "wb") as file:
             file.write(octets)

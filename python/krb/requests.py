@@ -49,7 +49,8 @@ class NegotiateAuth(AuthBase):
 
     def __call__(self, r: PreparedRequest) -> PreparedRequest:
         tell = getattr(r.body, "tell", None)
-        r.register_hook("response", functools.partial(self._answered, urlsplit(str(r.url)), tell() if tell else None))
+        answered = functools.partial(self._answered, urlsplit(str(r.url)), tell() if tell else None)
+        r.register_hook("response", answered)  # type: ignore[no-untyped-call]
         return r
 
     def _answered(self, first: Any, position: Optional[int], response: Response, **words: Any) -> Response:
@@ -75,16 +76,17 @@ class NegotiateAuth(AuthBase):
         """The answer to the request of a response, with this value of Authorization, on the connection of the response where it goes on."""
         response.content
         response.close()
-        request = response.request.copy()
-        extract_cookies_to_jar(request._cookies, response.request, response.raw)  # type: ignore[attr-defined]
+        request: Any = response.request.copy()
+        extract_cookies_to_jar(request._cookies, response.request, response.raw)  # type: ignore[no-untyped-call]
         request.headers.pop("Cookie", None)
-        request.prepare_cookies(request._cookies)  # type: ignore[attr-defined]
-        if position is not None:
-            request.body.seek(position)  # type: ignore[union-attr]
-        elif request.body is not None and not isinstance(request.body, (bytes, str)):
-            raise UnrewindableBodyError("the body cannot be sent again with the token", request=request)
+        request.prepare_cookies(request._cookies)
+        if request.body is not None and not isinstance(request.body, (bytes, str)):  # (after a redirect there may be none)
+            if position is None:
+                raise UnrewindableBodyError("the body cannot be sent again with the token", request=request)
+            request.body.seek(position)
         request.headers["Authorization"] = value
-        later: Response = response.connection.send(request, **words)  # type: ignore[attr-defined]
+        link: Any = response.connection  # type: ignore[attr-defined]
+        later: Response = link.send(request, **words)
         later.history = [*response.history, response]
         later.request = request
         return later
