@@ -82,8 +82,8 @@ def try_way(title, get, auth, realm, site, example, asking, tls):
 
 
 class Server:
-    """A web server that is none: its answers are by `answer`, which has the path and the value of Authorization and tells a status and fields; `kept` has both of each
-    request."""
+    """A web server that is none: its answers are by `answer`, which has the path and the value of Authorization and tells a status and fields; `kept` has both
+    of each request."""
 
     def __init__(self, answer):
         self.kept = kept = []

@@ -85,7 +85,8 @@ class Site:
 
 def try_curl(site):
     status, fields, page = site.curl()
-    expect(status == 401 and re.search("^www-authenticate: Negotiate\r?$", fields, re.I | re.M) and page == "Kerberos is needed.\n", "%s: curl: %s" % (site.name, fields))
+    is_asked = status == 401 and re.search("^www-authenticate: Negotiate\r?$", fields, re.I | re.M) and page == "Kerberos is needed.\n"
+    expect(is_asked, "%s: curl: %s" % (site.name, fields))
     expect(site.curl("-I")[0] == 401, "%s: curl, HEAD" % site.name)
     expect(site.curl("-u", "ann:a password")[0] == 401, "%s: curl, Basic" % site.name)
     expect(site.log("WARNING") == [], "%s: first requests are no warning: %s" % (site.name, site.log("WARNING")))

@@ -26,8 +26,8 @@ def bindings_of(certificate: Union[str, "os.PathLike[str]"]) -> bytes:
 
 
 class Answer(NamedTuple):
-    """What a request comes to. `negotiator`: the negotiation with the client, which is let in; None: it is not. `challenge`: the value of WWW-Authenticate, None
-    where there is none."""
+    """What a request comes to. `negotiator`: the negotiation with the client, which is let in; None: it is not. `challenge`: the value of WWW-Authenticate,
+    None where there is none."""
 
     negotiator: Optional[Negotiator]
     challenge: Optional[str]
@@ -40,8 +40,8 @@ def _challenge(token: Optional[bytes]) -> str:
 class Gate:
     """Decides about requests, over a `krb.Acceptor`, whose keytab it reads anew where the file changed.
 
-    - `bindings`: the service's channel bindings, as `bindings_of` tells them; None: none are checked. `asks`: whether MICs are wanted over the list of mechanisms
-      of each client that speaks SPNEGO (`krb.Negotiator`).
+    - `bindings`: the service's channel bindings, as `bindings_of` tells them; None: none are checked. `asks`: whether MICs are wanted over the list of
+      mechanisms of each client that speaks SPNEGO (`krb.Negotiator`).
     - `log`: gets a line for each client that is not let in, of level WARNING, which begins with the client's address. That a request came without a token, as
       the first one of most clients does, is of level DEBUG."""
 
@@ -56,8 +56,8 @@ class Gate:
         return Negotiator(NegotiationRole.ACCEPTOR, [KerberosMechanism(self.acceptor, self.bindings)], self.asks)
 
     def judge(self, authorization: Optional[str], address: Optional[str], connection: Optional[Dict[str, Any]]) -> Answer:
-        """What a request with this value of Authorization comes to, if it has one. `connection` is a dict of its connection's, which keeps a negotiation of more
-        than one token; without one the client is refused whose first token is not the last.
+        """What a request with this value of Authorization comes to, if it has one. `connection` is a dict of its connection's, which keeps a negotiation of
+        more than one token; without one the client is refused whose first token is not the last.
 
         What a replay cache raises, and what is no refusal of the client, as sqlite3.Error, is raised on: the client is not let in."""
         self._look_at_keytab()

@@ -93,8 +93,8 @@ class Login:
         return self._value(token or b"")
 
     def take(self, status: int, challenges: Optional[str]) -> Optional[str]:
-        """The value of Authorization of a further request; None where the answer with this status and these values of WWW-Authenticate is the last one. Of another
-        status than 401 the server has confirmed itself then. NotDone: it has not."""
+        """The value of Authorization of a further request; None where the answer with this status and these values of WWW-Authenticate is the last one. Of
+        another status than 401 the server has confirmed itself then. NotDone: it has not."""
         if self._side.state == NegotiationState.RUNNING:
             found = _CHALLENGE.search(challenges or "")
             token, why = None, "it sends no token"

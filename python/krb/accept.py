@@ -50,8 +50,8 @@ def _unremembered(since: int, seconds: int, skew: int) -> str:
     left = since + skew - seconds
     when = "in %d s" % left if left > 0 else "now"
     return (
-        "the client may have been let in before %s, since when the replay cache is whole: one whose clock is right is let in %s (replay_cache= says whole_since, "
-        "and nobody is let in for %d s from then on, which is skew=; whole_since=None is for a service that let in nobody before)"
+        "the client may have been let in before %s, since when the replay cache is whole: one whose clock is right is let in %s "
+        "(replay_cache= says whole_since, and nobody is let in for %d s from then on, which is skew=; whole_since=None is for a service that let in nobody before)"
         % (_written(since), when, skew)
     )
 

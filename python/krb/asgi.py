@@ -47,8 +47,8 @@ class Granted(NamedTuple):
 
 
 class Negotiate(Gate):
-    """Lets those requests through to the application whose client the acceptor lets in: `scope["user"]` is its `User`, `scope["krb.context"]` its `krb.Context`.
-    Others are answered by the status 401, WebSockets before they are opened by the server's 403; and each request is judged anew, in a thread.
+    """Lets those requests through to the application whose client the acceptor lets in: `scope["user"]` is its `User`, `scope["krb.context"]` its
+    `krb.Context`. Others are answered by the status 401, WebSockets before they are opened by the server's 403; and each request is judged anew, in a thread.
 
     - `acceptor`: a `krb.Acceptor`. Its keytab, where it is a file, is read anew once the file changed; one that cannot be read leaves the keys as they were.
     - `bindings`: the service's channel bindings, as `bindings_of` tells them; None: none are checked.

@@ -31,16 +31,16 @@ class NotConfirmed(RequestException):
 
 
 class NegotiateAuth(AuthBase):
-    """`auth=` of requests: answers the status 401 with Negotiate by a ticket for `HTTP/HOST`, HOST being that of the URL, and takes a page only once the server has
-    confirmed itself (mutual authentication). Any number of threads may use it.
+    """`auth=` of requests: answers the status 401 with Negotiate by a ticket for `HTTP/HOST`, HOST being that of the URL, and takes a page only once the
+    server has confirmed itself (mutual authentication). Any number of threads may use it.
 
-    - `tickets`: the path of a FILE cache, as of `kinit` or `python3 -m krb kinit`, which is read at each login; `krb.Credentials`, a ticket-granting ticket or one
-      for the server; None: the file of $KRB5CCNAME, or /tmp/krb5cc_UID.
+    - `tickets`: the path of a FILE cache, as of `kinit` or `python3 -m krb kinit`, which is read at each login; `krb.Credentials`, a ticket-granting ticket or
+      one for the server; None: the file of $KRB5CCNAME, or /tmp/krb5cc_UID.
     - `realms`: other realms to which a KDC may refer. `settings`: how KDCs are reached, for a file.
     - `channel_bindings`: whether a login over TLS is bound to the server's certificate, which has to be signed with SHA-256 then (RFC 5929, 4.1).
 
-    A page that comes without a login is handed out as it is. An answer of the status 401 is handed out, too: the client is not let in. A redirect to another host
-    gets no token. A request is sent again with the token, so its body has to be octets or text, or a file that can be read again."""
+    A page that comes without a login is handed out as it is. An answer of the status 401 is handed out, too: the client is not let in. A redirect to another
+    host gets no token. A request is sent again with the token, so its body has to be octets or text, or a file that can be read again."""
 
     def __init__(
         self, tickets: Union[Credentials, Path, None] = None, *, realms: Sequence[str] = (), channel_bindings: bool = True, settings: Settings = USUAL

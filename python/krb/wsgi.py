@@ -34,7 +34,11 @@ class Negotiate(Gate):
     environ["negotiate.connection"], and without one the negotiation has to end with the first token. What a replay cache raises goes to the server."""
 
     def __init__(
-        self, application: Callable[..., Iterable[bytes]], acceptor: Acceptor, bindings: Union[Octets, ChannelBindings, None] = None, asks: Optional[bool] = False
+        self,
+        application: Callable[..., Iterable[bytes]],
+        acceptor: Acceptor,
+        bindings: Union[Octets, ChannelBindings, None] = None,
+        asks: Optional[bool] = False,
     ) -> None:
         super().__init__(acceptor, bindings, asks, _log)
         self.application = application
