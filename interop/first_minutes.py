@@ -15,7 +15,7 @@ from script import PYTHON, TOP, is_there
 
 HERE = os.path.dirname(os.path.abspath(__file__))
 PAGE = os.path.join(TOP, "docs", "FIRST_TEN_MINUTES.md")
-NEEDED = "krb5kdc kadmind kadmin.local kinit kvno curl openssl gunicorn unshare ip".split()
+NEEDED = [*"krb5kdc kadmind kadmin.local kinit kvno curl openssl gunicorn unshare ip".split(), "import requests"]
 MARK = "\x1e"
 
 

@@ -5,14 +5,12 @@ to be, as HTTP/www.home.test: without it HTTP at any host of which the KEYTAB ha
 
 import logging
 import os
+import sqlite3
 import ssl
 import sys
 from http.server import BaseHTTPRequestHandler
 from socketserver import ThreadingMixIn
 from wsgiref.simple_server import ServerHandler, WSGIRequestHandler, WSGIServer, make_server
-
-import krb
-from negotiate import Negotiate, bindings_of
 
 
 class Server(ThreadingMixIn, WSGIServer):
@@ -48,22 +46,51 @@ def page(environ, start_response):
     return [body]
 
 
-options, words = {"--ask": False, "--new": False, "--server": "HTTP"}, sys.argv[1:]
-while words and words[0] in options:
-    word = words.pop(0)
-    options[word] = words.pop(0) if word == "--server" and words else word != "--server"
-if len(words) not in (3, 5) or not options["--server"]:
-    sys.exit(__doc__)
-keytab, cache, port, *files = words
-logging.basicConfig(format="%(name)s: %(message)s")
-if options["--new"] and os.path.lexists(cache):
-    sys.exit("serve.py: --new is said once, and %s is there: leave it out" % cache)
-replays = krb.FileReplayCache(cache, None if options["--new"] else "now")
-acceptor = krb.Acceptor(keytab, replay_cache=replays, server=options["--server"])
-application = Negotiate(page, acceptor, bindings_of(files[0]) if files else None, options["--ask"])
-with make_server("127.0.0.1", int(port), application, Server, Connection) as server:
-    if files:
-        context = ssl.SSLContext(ssl.PROTOCOL_TLS_SERVER)
-        context.load_cert_chain(*files)
-        server.socket = context.wrap_socket(server.socket, server_side=True, do_handshake_on_connect=False)
-    server.serve_forever()
+def words_of(words):
+    """The options, by their names, and the other words; None where they are no such ones."""
+    options = {"--ask": False, "--new": False, "--server": "HTTP"}
+    while words and words[0] in options:
+        word, *words = words
+        if word == "--server":
+            options[word], *words = words or [""]
+        else:
+            options[word] = True
+    is_right = len(words) in (3, 5) and options["--server"] and words[2].isdecimal() and not words[0].startswith("-")
+    return (options, words) if is_right else None
+
+
+def application_of(options, keytab, cache, certificate):
+    """The page behind Negotiate."""
+    import krb  # here, since the usage is told without the library, too
+    from krb.wsgi import Negotiate, bindings_of
+
+    if options["--new"] and os.path.lexists(cache):
+        raise ValueError("--new is said once, and %s is there: leave it out" % cache)
+    replays = krb.FileReplayCache(cache, None if options["--new"] else "now")
+    acceptor = krb.Acceptor(keytab, replay_cache=replays, server=options["--server"])
+    return Negotiate(page, acceptor, bindings_of(certificate) if certificate else None, options["--ask"])
+
+
+def main():
+    given = words_of(sys.argv[1:])
+    if given is None:
+        print(__doc__, file=sys.stderr)
+        return 2
+    options, (keytab, cache, port, *files) = given
+    logging.basicConfig(format="%(name)s: %(message)s", level=logging.INFO)
+    try:
+        application = application_of(options, keytab, cache, files[0] if files else None)
+    except (OSError, ValueError, sqlite3.Error) as error:
+        print("serve.py: %s" % error, file=sys.stderr)
+        return 1
+    with make_server("127.0.0.1", int(port), application, Server, Connection) as server:
+        if files:
+            context = ssl.SSLContext(ssl.PROTOCOL_TLS_SERVER)
+            context.load_cert_chain(*files)
+            server.socket = context.wrap_socket(server.socket, server_side=True, do_handshake_on_connect=False)
+        server.serve_forever()
+    return 0
+
+
+if __name__ == "__main__":
+    sys.exit(main())

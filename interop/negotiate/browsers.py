@@ -274,4 +274,4 @@ def try_browsers(realm, environment, folder, programs):
         else:
             say("left out: %s, which cannot be had" % program)
     log = realm.log()  # wsgiref has a traceback where a browser leaves
-    expect("negotiate.py\", line" not in log and "krb" + os.sep not in log, "the log of the example: %s" % log)
+    expect("krb" + os.sep not in log, "the log of the example: %s" % log)

@@ -16,6 +16,7 @@
 - `krb.proxy`: the requests and replies that a KDC proxy passes on, and no others (MS-KKDCP).
 - `krb.pac`: the buffers of a PAC (MS-PAC). `krb.spnego`: tokens of the GSS-API (RFC 2743).
 - `krb.capture`: the messages in a capture of a network (docs/CAPTURES.md). `python -m krb capture` is its command line.
+- `krb.wsgi`, `krb.asgi`: middlewares that let in those who have a ticket (RFC 4559). `krb.requests`, `krb.httpx`: logins to such pages, for the packages of these names.
 - `python3 -m krb.web` serves a page on 127.0.0.1 that shows octets in the browser (docs/WEB.md).
 
 Octets come in as any object with a buffer of octets, as bytes, bytearray or memoryview, and go out as bytes, but for the buffers of a PAC,

@@ -51,7 +51,8 @@ def _unremembered(since: int, seconds: int, skew: int) -> str:
     when = "in %d s" % left if left > 0 else "now"
     return (
         "the client may have been let in before %s, since when the replay cache is whole: one whose clock is right is let in %s "
-        "(replay_cache= says whole_since; None is for a service that let in nobody before)" % (_written(since), when)
+        "(replay_cache= says whole_since, and nobody is let in for %d s from then on, which is skew=; whole_since=None is for a service that let in nobody before)"
+        % (_written(since), when, skew)
     )
 
 
@@ -150,6 +151,13 @@ def _address(address: Optional[str]) -> Tuple[int, bytes]:
     return 2, found.packed
 
 
+def _seen(found: os.stat_result) -> Optional[Tuple[int, ...]]:
+    """What a file looks like that is written no more: one that was written within a second may be written once more in the same tick of the clock, and is None."""
+    if abs(time.time() - max(found.st_mtime, found.st_ctime)) < 1:
+        return None
+    return found.st_dev, found.st_ino, found.st_size, found.st_mtime_ns, found.st_ctime_ns
+
+
 class Acceptor:
     """A service that lets clients in, by the keys of its keytab. Any number of threads may use it.
 
@@ -211,17 +219,31 @@ class Acceptor:
         if not isinstance(replay_cache, bool):
             self._cache = ReplayCache(clock()) if replay_cache is None else replay_cache
         self._from = keytab
+        self._held: Tuple[bytes, Optional[Tuple[int, ...]]] = b"", None  # the keytab, and how its file looked
         self.reload()
 
     def reload(self) -> None:
         """Reads the keytab anew, where it is a file; on an error the old keys stay. Refused, OSError: as for the class."""
+        seen = None
         if isinstance(self._from, (str, os.PathLike)):
             with open(self._from, "rb") as file:
+                seen = _seen(os.fstat(file.fileno()))
                 keytab = file.read()
         else:
             keytab = plain(self._from)
         _error(keytab, 0, 0, False)  # refuses what is no keytab, and one with no entry
-        self._keytab = keytab
+        self._held = keytab, seen
+
+    def reload_if_changed(self) -> bool:
+        """Reads the keytab anew where its file is another one than that which was read, or was written since, as `ktadd` does: by its inode, size and times. True
+        where the keys are others now. It costs one look at the file, and may be called before each `accept`, in any thread.
+
+        On an error the old keys stay, and the next call tries again. Refused, OSError: as for the class."""
+        keytab, seen = self._held
+        if not isinstance(self._from, (str, os.PathLike)) or seen is not None and _seen(os.stat(self._from)) == seen:
+            return False
+        self.reload()
+        return self._held[0] != keytab
 
     def accept(self, token: Octets, channel_bindings: Union[Octets, ChannelBindings, None] = None, address: Optional[str] = None) -> Context:
         """The context with the client that sent this token, which is let in. Its `reply` is to be sent to the client.
@@ -234,7 +256,7 @@ class Acceptor:
         process than its own."""
         if self._addresses_required and address is None:
             raise ValueError("the client's address is needed, since addresses_required is set")
-        token, keytab, now = plain(token), self._keytab, self._clock()
+        token, keytab, now = plain(token), self._held[0], self._clock()
         options, bindings = self._options, b""
         if channel_bindings is not None:
             given = channel_bindings if isinstance(channel_bindings, ChannelBindings) else ChannelBindings(plain(channel_bindings))
