@@ -19,8 +19,12 @@ def page(environ, start_response):
 
 
 async def bare_page(scope, receive, send):
-    if scope["type"] != "http":
-        raise ValueError("no request")
+    if scope["type"] == "websocket":
+        await receive()
+        await send({"type": "websocket.accept"})
+        await send({"type": "websocket.send", "text": "You are %s.\n" % scope["user"].display_name})
+        await send({"type": "websocket.close", "code": 1000})
+        return
     body, more = b"", True
     while more:
         message = await receive()

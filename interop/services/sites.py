@@ -5,6 +5,7 @@ import http.client
 import os
 import re
 import shutil
+import socket
 import subprocess
 import time
 
@@ -145,6 +146,35 @@ def all_workers_read(site, cache):
     return False
 
 
+def try_websocket(site):
+    """The first octets of a WebSocket (RFC 6455, 4.1): whether it is opened, and what it sends."""
+
+    def opened(authorization):
+        lines = "GET / HTTP/1.1", "Host: localhost", "Connection: Upgrade", "Upgrade: websocket", "Sec-WebSocket-Version: 13"
+        text = "\r\n".join([*lines, "Sec-WebSocket-Key: %s==" % ("A" * 22), *(["Authorization: " + authorization] if authorization else []), "", ""])
+        with socket.create_connection(("127.0.0.1", site.port), 20) as link:
+            link.settimeout(20)
+            link.sendall(text.encode())
+            came = b""
+            while part := link.recv(1 << 16):
+                came += part
+                if came.endswith(b"\x88\x02\x03\xe8"):  # the frame that closes
+                    break
+        head, _, rest = came.partition(b"\r\n\r\n")
+        return head.split()[1].decode(), head, rest
+
+    for what, sent in (("no token", None), ("another token", "Negotiate YQ==")):
+        status, _, rest = opened(sent)
+        expect(status == "403" and b"You are" not in rest, "%s: a WebSocket with %s: %s" % (site.name, what, status))
+    sent, client = value()
+    status, head, rest = opened(sent)
+    token = re.search(rb"^www-authenticate: Negotiate (\S+)\r?$", head, re.I | re.M)
+    expect(status == "101" and b"You are ann@HOME.TEST.\n" in rest and token, "%s: a WebSocket with a token: %s %s" % (site.name, head, rest))
+    client.take(base64.b64decode(token[1]))
+    expect(client.is_complete(), "%s: a WebSocket with a token: the answer" % site.name)
+    expect(opened(sent)[0] == "403", "%s: a WebSocket with a token that comes again" % site.name)
+
+
 def try_keytab(site):
     """Without a restart."""
     realm, fresh, name = site.realm, site.realm.path("fresh-%d" % site.port), site.name
@@ -178,6 +208,8 @@ def try_sites(realm, environment):
         try:
             for what, run in (("curl", try_curl), ("tokens", try_tokens), ("a keytab that changes", try_keytab)):
                 counted("%s: %s" % (name, what), lambda: run(site))
+            if name == "uvicorn":
+                counted("%s: WebSockets" % name, lambda: try_websocket(site))
             expect(not any("Traceback" in line for line in site.log("ERROR")), "%s: the log" % name)
         finally:
             site.stop()

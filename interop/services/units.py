@@ -6,6 +6,8 @@ import logging
 import os
 import shutil
 import time
+import types
+import unittest.mock
 
 from checks import expect
 
@@ -141,9 +143,29 @@ def raised(call):
     return None
 
 
+class Coarse:
+    """The module os on a file system whose times go on by ticks of 50 milliseconds."""
+
+    TICK = 50_000_000
+
+    def __getattr__(self, name):
+        return getattr(os, name)
+
+    def _of(self, found):
+        times = {"st_%stime_ns" % each: getattr(found, "st_%stime_ns" % each) // self.TICK * self.TICK for each in "mc"}
+        seconds = {name[:-3]: nanoseconds / 1e9 for name, nanoseconds in times.items()}
+        return types.SimpleNamespace(st_dev=found.st_dev, st_ino=found.st_ino, st_size=found.st_size, **times, **seconds)
+
+    def stat(self, path):
+        return self._of(os.stat(path))
+
+    def fstat(self, number):
+        return self._of(os.fstat(number))
+
+
 def try_tick(path):
-    """A keytab that is written twice in one tick of the clock, by which files have their times."""
-    with open(path, "r+b") as file:
+    """A keytab that is written twice in one tick of the clock by which files have their times."""
+    with open(path, "r+b") as file, unittest.mock.patch("krb.accept.os", Coarse()):
         octets = file.read()
         acceptor = krb.Acceptor(octets, replay_cache=False)
         for n in range(300):
