@@ -468,18 +468,24 @@ class Struct(Content):
             last=encs[-1],
         )
 
+    def heading(self):
+        """What the type and its row are called, and how deep they are: in both texts."""
+        return {
+            "title": self.title,
+            "type": self.type,
+            "row": self.row,
+            "first": self.first,
+            "count": len(self.fields),
+            "depth": sucs(self.depth),
+            "depth_of_fields": sucs(self.depth - 1),
+        }
+
     def text(self):
         places = [f"x{'.1' * at}.0" for at in range(len(self.fields))]
         rights = [it.right(f"h{x[1:]}") for it, x in zip(self.fields, places)]
         right = self.grouped(rights, ", ")
         text = CODEC.format(
-            title=self.title,
-            type=self.type,
-            row=self.row,
-            first=self.first,
-            count=len(self.fields),
-            depth=sucs(self.depth),
-            depth_of_fields=sucs(self.depth - 1),
+            **self.heading(),
             fields=nested([it.codec() for it in self.fields], "", "end"),
             to=nested([it.v for it in self.fields], ",", "tt"),
             of=self.of(places),
@@ -515,13 +521,7 @@ class Struct(Content):
         blanks = [f"{it}_refused schema k _{' _' * (2 * at + 1)}" for at, it in enumerate(IN_ORDER)]
         sign = " " if sum(map(len, fields)) < LONG else NEXT
         text = READER.format(
-            title=self.title,
-            type=self.type,
-            row=self.row,
-            first=self.first,
-            count=len(self.fields),
-            depth=sucs(self.depth),
-            depth_of_fields=sucs(self.depth - 1),
+            **self.heading(),
             fields=self.in_order(fields, IN_ORDER, sign),
             parts=names[0] if len(names) == 1 else f"({self.grouped(names, ', ')})",
             ties=f"    ({self.in_order(ties, blanks, NEXT)})",
