@@ -72,6 +72,9 @@ def application_of(options, keytab, cache, certificate):
 
 
 def main():
+    if sys.argv[1:] == ["--help"]:
+        print(__doc__)
+        return 0
     given = words_of(sys.argv[1:])
     if given is None:
         print(__doc__, file=sys.stderr)

@@ -8,6 +8,9 @@ import sys
 
 
 def main(words):
+    if words == ["--help"]:
+        print(__doc__)
+        return 0
     if len(words) != 3 or words[0].startswith("-"):
         print(__doc__, file=sys.stderr)
         return 2
