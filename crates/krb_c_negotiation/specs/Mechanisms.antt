@@ -1,4 +1,4 @@
--- The mechanisms of a side, of what the caller tells.
+-- The mechanisms of a side (RFC 4178, 3.2 and 5), of what the caller tells: their names, what each made of a token, and its MICs.
 use Rattle.std.specs.Prelude.{◌≡◌, ◌⊎◌, ◌&&◌, ◌==◌, ℕ, List, [], ◌∷◌, Bool, false, Option, Some, None, Result, Ok, Err, Vec, length, map, if◌then◌else◌}
 use Rattle.std.specs.declared.alloc.Global.{Global}
 use Rattle.krb_c_calls.specs.MessageRules.{RefusesReading}

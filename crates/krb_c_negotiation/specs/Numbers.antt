@@ -1,4 +1,4 @@
--- The numbers of krb.h, and what they are numbers of.
+-- The numbers of krb.h, and what they are numbers of: sides, their stages (RFC 4178, 3.2), and the rules that messages break (4.2 and 5).
 use Rattle.std.specs.Prelude.{ℕ, nat_eq, not, Bool, true, false, List, [], ◌∷◌, Result, Ok, Err, if◌then◌else◌}
 use Rattle.krb_c_calls.specs.declared.call_error.CallError.{CallError}
 use Rattle.krb_c_calls.specs.declared.call_error.CallError.TheVariants as calls
