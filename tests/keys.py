@@ -22,8 +22,9 @@ OF_TYPE, OF_OTHERS = '"no key of this encryption type opens it"', '"no key of th
 
 def keys(library, columns):
     """A row of `keys`: `key` or `keytab`, a text or a keytab, and keys ETYPE:HEX with `|` between;
-    or `password`, a text, what stands in a ticket before its part, and keys; or `found` and how
-    many keys are found; or `hidden` or `message` and octets that are shown with keys hidden."""
+    or `password`, a text, what stands in a ticket before its part, and keys; or `salts`, a text, a
+    message with a ticket, and salts; or `found` and how many keys are found; or `hidden` or
+    `message` and octets that are shown with keys hidden."""
     how, given, *more = columns
     return ASKED[how](library, given, *more)
 
@@ -79,6 +80,42 @@ def password(library, text, front, wanted):
             ticket = ticket_of(library, *key_of(it), front=octets(front))
             told.append(opener_in(asked(library, words, ticket)))
     return told
+
+
+def salts(library, text, given, wanted):
+    """What opens the ticket's part in a message under the key of this password and each salt, in
+    turn; in the message forty octets 01 stand for what is sealed."""
+    with tempfile.TemporaryDirectory(prefix="tests-") as folder:
+        file = Path(folder, "password")
+        file.write_text(f"{text}\n", encoding="utf-8")
+        words, told = ["show", "--password-file", str(file)], []
+        for salt in wanted.split("|"):
+            made = library.string_to_key(18, text.encode(), salt.encode()).demand().out
+            confounder = FRESH[: library.confounder_size(18)]
+            sealed = library.seal_ticket_part(18, made, 2, confounder, PART).demand().out
+            message, count = exchanged(octets(given), bytes([1]) * 40, sealed)
+            if count != 1:
+                raise Fault(f"{count} tickets stand for what is sealed")
+            told.append(opener_in(asked(library, words, message)))
+    return told
+
+
+def exchanged(elements, old, new):
+    """Elements with this content in place of the other, wherever it stands; and how often it does."""
+    made, count = b"", 0
+    while elements:
+        tag, size, start = elements[0], elements[1], 2
+        if size >= 128:
+            start += size - 128
+            size = int.from_bytes(elements[2:start], "big")
+        content, elements = elements[start : start + size], elements[start + size :]
+        if tag & 0x20:
+            content, within = exchanged(content, old, new)
+            count += within
+        elif content == old:
+            content, count = new, count + 1
+        made += element(tag, content)
+    return made, count
 
 
 def found(library, count):
@@ -149,5 +186,5 @@ def message(library, given):
     return lines_of(library.show_page(b"", octets(given), b"", False, False).demand().out)
 
 
-ASKED = {"key": key, "keytab": keytab, "password": password, "found": found}
-ASKED.update({"hidden": hidden, "message": message})
+ASKED = {"key": key, "keytab": keytab, "password": password, "salts": salts}
+ASKED.update({"found": found, "hidden": hidden, "message": message})

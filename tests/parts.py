@@ -2,10 +2,14 @@
 
 import collections
 import concurrent.futures
+import errno
+import functools
 import os
 import subprocess
 import tempfile
+from pathlib import Path
 
+from library import Fault
 from rows import flipped, octets
 
 # How many seconds a run may take, also where other work takes the processors.
@@ -31,9 +35,11 @@ def parts(library, columns):
 def krbtool(library, columns):
     """A row of `krbtool`, which asks that program: `once`, the words behind its name, and standard
     input; or `prefixes` or `flips`, of each proper prefix of it, and of it with each bit
-    flipped."""
+    flipped; or `devices` and how many octets a call of them moves."""
     how, words, given = columns
     program, words, given = library.krbtool, words.split(" ") if words else [], octets(given)
+    if how.startswith("devices "):
+        return over_devices(program, words, given, int(how.removeprefix("devices ")))
     if how == "once":
         ended, output, errors = run(program, words, given)
         return [ended, *([output.hex()] if output else []), *lines_of(errors)]
@@ -43,18 +49,75 @@ def krbtool(library, columns):
     return sorted(f"{count} times {it}" for it, count in told.items())
 
 
+def over_devices(program, words, given, step):
+    """A run over devices of which a call moves at most so many octets: how it ends, what it writes,
+    and how many calls of each device there are; then how runs end in which one call fails, and in
+    which one is interrupted, each in turn."""
+    (ended, output, errors), calls = on_devices(program, words, given, f"{step} 0 0 0")
+    names = "reads", "writes", "writes to standard error"
+    counted = ", ".join(f"{count} {name}" for count, name in zip(calls, names))
+    told = [ended, *([output.hex()] if output else []), *lines_of(errors), counted]
+    for device, name in enumerate(names):
+        turns = range(1, calls[device] + 1)
+        fails = collections.Counter()
+        for turn in turns:
+            what = f"{step} {device} {turn} {errno.EIO}"
+            (status, made, line), _ = on_devices(program, words, given, what)
+            before = (turn - 1) * step
+            kept = [output, errors] if device == 2 else [output[: before * device], errors]
+            kept[1] = errors[:before] if device == 2 else b"krbtool: io\n"
+            status = status.partition(",")[0]
+            as_told = "what came before" if [made, line] == kept else f"{made.hex()} {line!r}"
+            fails[f"{status}, {as_told}"] += 1
+        same = sum(
+            on_devices(program, words, given, f"{step} {device} {turn} {errno.EINTR}")[0]
+            == (ended, output, errors)
+            for turn in turns
+        )
+        told += [f"{count} {name} fail: {it}" for it, count in sorted(fails.items())]
+        told += [f"{same} {name} interrupted: the same"] if calls[device] else []
+    return told
+
+
+def on_devices(program, words, given, devices):
+    """A run over devices (devices.c), and how many calls of each there were."""
+    with tempfile.TemporaryFile() as counts:
+        descriptor = counts.fileno()
+        more = {"DEVICES": devices, "DEVICES_TOLD": str(descriptor), "LD_PRELOAD": str(object_of())}
+        ran = run(program, words, given, env={**os.environ, **more}, pass_fds=[descriptor])
+        counts.seek(0)
+        return ran, [int(it) for it in counts.read().split()]
+
+
+@functools.cache
+def object_of():
+    """The object of devices.c, which is made where it is missing or older."""
+    source = Path(__file__).with_name("devices.c")
+    made = source.parent.parent / "out/tests/devices.so"
+    if not made.exists() or made.stat().st_mtime < source.stat().st_mtime:
+        made.parent.mkdir(parents=True, exist_ok=True)
+        new = made.with_suffix(f".{os.getpid()}")
+        words = ["-shared", "-fPIC", "-O2", "-Wall", "-Wextra", "-Werror", "-o", str(new), str(source)]
+        ran = subprocess.run(["cc", *words], capture_output=True, text=True)
+        if ran.returncode:
+            raise Fault(f"devices.c is not compiled: {ran.stderr[:400]}")
+        new.replace(made)
+    return made
+
+
 def prefixes(given):
     """The octets without their last ones, down to none."""
     return (given[:size] for size in range(len(given)))
 
 
-def run(program, words, given):
+def run(program, words, given, **more):
     """How a run ends, and how much of its input it leaves; what it writes to both its outputs."""
     with tempfile.TemporaryFile() as file:
         file.write(given)
         file.seek(0)
         try:
-            ran = subprocess.run([program, *words], stdin=file, capture_output=True, timeout=LIMIT)
+            words = [program, *words]
+            ran = subprocess.run(words, stdin=file, capture_output=True, timeout=LIMIT, **more)
         except subprocess.TimeoutExpired:
             return f"not ended after {LIMIT} seconds", b"", b""
         left = len(given) - os.lseek(file.fileno(), 0, os.SEEK_CUR)

@@ -2,24 +2,20 @@
 //!
 //! A row is six columns: a call, a suite or a size, a number in decimal digits (mostly a key usage), and three octet strings: a key
 //! or a password, what stands beside the input (a confounder, a salt or a constant), and the input. For each row the program prints
-//! the call, the suite and what is returned: octets in hexadecimal digits, or the error. What is asked here under the names of
-//! `picky_krb`, the calls of the library for C answer in full (tests/calls.rows).
+//! the call, the suite and what is returned: octets in hexadecimal digits, or the error. What the calls of the library for C answer in full is asked in
+//! tests/calls.rows.
 
 mod blocks;
-mod free_calls;
 mod hashes;
-mod numbers;
+mod listed_words;
 mod parts;
-mod prepared;
 mod row;
 mod suites;
 mod texts;
+mod toy;
 
 use crate::crypto::blocks::try_block;
-use crate::crypto::free_calls::{try_aes, try_aes_sha2, try_des};
 use crate::crypto::hashes::try_hash;
-use crate::crypto::numbers::try_number;
-use crate::crypto::prepared::try_prepared;
 use crate::crypto::row::{Answer, Row, text_of};
 use crate::crypto::suites::{try_checksum, try_suite};
 use crate::crypto::texts::texts_of;
@@ -36,22 +32,6 @@ fn try_row(alloc: Global, row: &Row) -> Answer {
         return found;
     }
     let found = try_hash(alloc, row);
-    if found.is_some() {
-        return found;
-    }
-    let found = try_number(alloc, row);
-    if found.is_some() {
-        return found;
-    }
-    let found = try_prepared(alloc, row);
-    if found.is_some() {
-        return found;
-    }
-    let found = match row.suite {
-        "des3" => try_des(alloc, row),
-        "aes128" | "aes256" => try_aes(alloc, row),
-        _ => try_aes_sha2(alloc, row),
-    };
     if found.is_some() {
         return found;
     }

@@ -5,15 +5,10 @@
 
 mod crypto;
 mod fields;
-mod kdc_proxy;
-mod lists;
 mod messages;
-mod negoex_pages;
 mod pac_checksums;
 mod pac_text;
 mod rows;
-mod salts;
-mod third_legs;
 
 use rows::{Columns, Report, RowError, report_rows};
 use std::alloc::Global;
@@ -32,13 +27,8 @@ pub(crate) fn report_of(
         }
         "crypto" => crypto::answer(alloc, columns),
         "pac checksums" => pac_checksums::answer(alloc, columns),
-        "third legs" => third_legs::answer(alloc, columns),
-        "negoex pages" => negoex_pages::answer(alloc, columns),
-        "salts" => salts::answer(alloc, columns),
         "fields" => fields::answer(alloc, columns),
-        "lists" => lists::answer(alloc, columns),
         "pac text" => pac_text::answer(alloc, columns),
-        "kdc proxy" => kdc_proxy::answer(alloc, columns),
         _ => Err(RowError::NoTable),
     }?;
     Ok(Report { text, held: true })

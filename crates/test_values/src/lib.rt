@@ -1,7 +1,6 @@
 //! Tests of what no table of a program can hold: values that are built field by field, rows that are
-//! typed apart from the tables of a crate, engines of a negotiation, and runs of `krbtool` over
-//! devices that fail. The crate holds tests alone, so that no other crate is proved a second time for
-//! its own.
+//! typed apart from the tables of a crate, and engines of a negotiation. The crate holds tests alone,
+//! so that no other crate is proved a second time for its own.
 #![tactic(auto)]
 
 #[cfg(test)]
@@ -19,13 +18,15 @@ mod conversations;
 #[cfg(test)]
 mod first_rows;
 #[cfg(test)]
-mod krbtool;
+mod kdc_proxy;
 #[cfg(test)]
 mod places;
 #[cfg(test)]
 mod primitive_rows;
 #[cfg(test)]
 mod rows_of_standards;
+#[cfg(test)]
+mod third_legs;
 pub mod toy;
 #[cfg(test)]
 mod view_rows;

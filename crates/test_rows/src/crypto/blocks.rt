@@ -2,12 +2,13 @@
 
 use crate::crypto::row::{Answer, Row, answer_of, block_of, copied, size_of, text_of};
 use krb_crypto_aes_tables::agree;
-use picky_krb::crypto::KerberosCryptoResult;
-use picky_krb::crypto::aes::{
-    AesKey, AesSize, AesTableKey, decrypt_aes_cbc, decrypt_aes_cts, encrypt_aes_cbc,
-    encrypt_aes_cts, swap_two_last_blocks,
+use krb_crypto_aes_tables::AesTableKey;
+use krb_crypto_block::KerberosCryptoResult;
+use krb_crypto_suite_types::aes::{
+    AesKey, AesSize, decrypt_aes_cbc, decrypt_aes_cts, encrypt_aes_cbc, encrypt_aes_cts,
+    swap_two_last_blocks,
 };
-use picky_krb::crypto::des::{DesKey, decrypt_des, encrypt_des};
+use krb_crypto_suite_types::des::{DesKey, decrypt_des, encrypt_des};
 use std::alloc::Global;
 
 /// What AES by vector permutes makes of a block; `None` where AES by word tables makes another of it in either direction.

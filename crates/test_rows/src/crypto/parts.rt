@@ -1,13 +1,12 @@
 //! Sealed parts, and keys of shared secrets, under the caller's cipher; and messages under the words of the caller's generator.
 
+use crate::crypto::listed_words::ListedWords;
 use crate::crypto::row::{Answer, Row, answer_of, copied};
-use examples::ListedWords;
-use picky_krb::crypto::diffie_hellman::{
-    DhNonce, DiffieHellmanError, generate_key_from_shared_secret,
-};
-use picky_krb::crypto::{Cipher, KerberosCryptoError, KerberosCryptoResult, encrypt_with_rng};
-use picky_krb::der::{Asn1DerError, Asn1RawDer, from_bytes};
-use picky_krb::seal::{PartError, open_part, seal_part};
+use krb_crypto::diffie_hellman::{DhNonce, DiffieHellmanError, generate_key_from_shared_secret};
+use krb_crypto::seal::{PartError, open_part, seal_part};
+use krb_crypto::{Cipher, KerberosCryptoError, KerberosCryptoResult, encrypt_with_rng};
+use krb_der::{Asn1DerError, from_bytes};
+use krb_der_x509::Asn1RawDer;
 use rand_core::Rng;
 use std::alloc::Global;
 

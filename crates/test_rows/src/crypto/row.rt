@@ -1,8 +1,8 @@
 //! A row of the table.
 
 use crate::rows::{Columns, RowError};
-use picky_krb::crypto::KerberosCryptoResult;
-use picky_krb::crypto::aes::AesSize;
+use krb_crypto::KerberosCryptoResult;
+use krb_crypto_suite_types::aes::AesSize;
 use std::alloc::{AllocError, Global};
 
 /// What a call is given.

@@ -1,22 +1,34 @@
 //! Calls of a suite, by its name or its number.
 
-use crate::crypto::numbers::sizes_of;
 use crate::crypto::parts::{agreed, generated, try_part};
 use crate::crypto::row::{Answer, Row, answer_of, text_of};
-use examples::Toy;
-use picky_krb::crypto::aes::{
-    Aes128CtsHmacSha196, Aes128CtsHmacSha256128, Aes256CtsHmacSha196, Aes256CtsHmacSha384192,
-    HmacSha196Aes128, HmacSha196Aes256, HmacSha256128Aes128, HmacSha384192Aes256,
-};
-use picky_krb::crypto::des::{Des3CbcSha1Kd, HmacSha1Des3Kd};
-use picky_krb::crypto::{
+use crate::crypto::toy::Toy;
+use krb_crypto::{
     Checksum, ChecksumSuite, Cipher, CipherSuite, DecryptWithoutChecksum, EncryptWithoutChecksum,
     KerberosCryptoError, KerberosCryptoResult,
 };
-use std::alloc::Global;
+use krb_crypto_suite_types::aes::{
+    Aes128CtsHmacSha196, Aes256CtsHmacSha196, HmacSha196Aes128, HmacSha196Aes256,
+};
+use krb_crypto_suite_types::aes_sha2::{
+    Aes128CtsHmacSha256128, Aes256CtsHmacSha384192, HmacSha256128Aes128, HmacSha384192Aes256,
+};
+use krb_crypto_suite_types::des::{Des3CbcSha1Kd, HmacSha1Des3Kd};
+use std::alloc::{AllocError, Global};
+
+/// The sizes of a cipher, the number of its type and that of its checksum's.
+fn sizes_of(alloc: Global, cipher: &dyn Cipher) -> Result<String, AllocError> {
+    let (key, seed) = (cipher.key_size(), cipher.seed_bit_len());
+    let (confounder, fill) = (cipher.confounder_size(), cipher.fill_size());
+    let number = u8::from(cipher.cipher_type());
+    let sum = u8::from(cipher.checksum_type());
+    format!(in alloc;
+        "key {key} seed {seed} confounder {confounder} fill {fill} cipher {number} checksum {sum}"
+    )
+}
 
 /// What was encrypted, its confounder and the key of its checksum.
-pub fn shut(
+fn shut(
     alloc: Global,
     made: KerberosCryptoResult<EncryptWithoutChecksum>,
 ) -> KerberosCryptoResult<String> {
@@ -28,7 +40,7 @@ pub fn shut(
 }
 
 /// What was decrypted, its confounder, its checksum and the key of that.
-pub fn split(
+fn split(
     alloc: Global,
     read: KerberosCryptoResult<DecryptWithoutChecksum>,
 ) -> KerberosCryptoResult<String> {

@@ -1,11 +1,11 @@
 //! The texts of the errors.
 
-use picky_krb::crypto::KerberosCryptoError;
-use picky_krb::crypto::diffie_hellman::DiffieHellmanError;
-use picky_krb::der::Asn1DerError;
-use picky_krb::gss_api::GssApiMessageError;
-use picky_krb::pac::PacError;
-use picky_krb::seal::PartError;
+use krb_crypto::KerberosCryptoError;
+use krb_crypto::diffie_hellman::DiffieHellmanError;
+use krb_crypto::seal::PartError;
+use krb_der::Asn1DerError;
+use krb_gss_tokens::GssApiMessageError;
+use krb_pac::PacError;
 use std::alloc::{AllocError, Global};
 use std::fmt::Display;
 use std::io;

@@ -2,8 +2,8 @@ use Rattle.std.proofs.Common.{◌≡◌, ◌∙◌, ◌++◌, sym, ap, length, m
 use Rattle.std.proofs.lemmas.List.{append-nil}
 use Rattle.krb_der.specs.Encoding.{IsOctets}
 use Rattle.krb_crypto_message.specs.Sealing.{IsSplit}
-use Rattle.examples.proofs.ToyOpening.{toy_decrypts, only_octet}
-use Rattle.examples.proofs.toy.ToyCipher.decrypt_no_checksum.Goals as goal
+use Rattle.test_rows.proofs.ToyOpening.{toy_decrypts, only_octet}
+use Rattle.test_rows.proofs.crypto.toy.ToyCipher.decrypt_no_checksum.Goals as goal
 
 pub returns-clause-opened : goal.returns-clause-opened
 returns-clause-opened c =

@@ -10,7 +10,7 @@ use Rattle.krb_crypto_hash.specs.declared.error.KerberosCryptoError.{KerberosCry
 use Rattle.krb_der.specs.Encoding.{IsOctets}
 use Rattle.krb_crypto_block.specs.Modes.{IsPadding}
 use Rattle.krb_crypto_message.specs.Sealing.{IsGiven, IsOfNone, IsSplit, Encrypts, Decrypts, Opens}
-use Rattle.examples.specs.Toy.{IsToy}
+use Rattle.test_rows.specs.Toy.{IsToy}
 
 -- ---- octets
 

@@ -2,8 +2,8 @@ use Rattle.std.proofs.Common.{◌≡◌, ◌+◌, ◌-◌, ◌%◌, ◌++◌, Li
 use Rattle.std.specs.Vec.{vec_len}
 use Rattle.krb_der.specs.Encoding.{IsOctets}
 use Rattle.krb_crypto_block.specs.Modes.{IsPadding}
-use Rattle.examples.proofs.ToyOpening.{resized_padding, padding_octets, octets-append}
-use Rattle.examples.proofs.toy.padded.Goals as goal
+use Rattle.test_rows.proofs.ToyOpening.{resized_padding, padding_octets, octets-append}
+use Rattle.test_rows.proofs.crypto.toy.padded.Goals as goal
 
 is_padding : (c : goal.In_ok-resize) → IsPadding 4 (c.args.confounder.now ++ c.args.payload.now) c.resize.new.self.items
 is_padding c =

@@ -1,6 +1,6 @@
 use Rattle.std.proofs.lemmas.Result.{err_from_is_err_and}
-use Rattle.examples.proofs.ToyOpening.{rejected_without, opens_without}
-use Rattle.examples.proofs.toy.ToyCipher.decrypt.Goals as goal
+use Rattle.test_rows.proofs.ToyOpening.{rejected_without, opens_without}
+use Rattle.test_rows.proofs.crypto.toy.ToyCipher.decrypt.Goals as goal
 
 pub returns-in_err-decrypt_no_checksum-clause-rejected : goal.returns-in_err-decrypt_no_checksum-clause-rejected
 returns-in_err-decrypt_no_checksum-clause-rejected c = λ right.

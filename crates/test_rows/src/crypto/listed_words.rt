@@ -2,8 +2,8 @@
 
 ghost use Rattle.std.specs.Prelude.{ℕ};
 ghost use Rattle.rand_core.specs.Steps.{steps_u32, stream_of};
-ghost use Rattle.examples.specs.ListedWords.{listed};
-ghost use Rattle.examples.specs.declared.listed_words.TheConstants.{WORDS};
+ghost use Rattle.test_rows.specs.ListedWords.{listed};
+ghost use Rattle.test_rows.specs.declared.crypto.listed_words.TheConstants.{WORDS};
 
 use rand_core::utils::NextWord;
 use rand_core::{Rng, utils};

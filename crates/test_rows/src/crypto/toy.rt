@@ -3,9 +3,9 @@
 ghost use Rattle.std.specs.Prelude.{◌≡◌, ◌≢◌, ◌<◌, ◌≤◌, ◌+◌, ◌*◌, ◌%◌, ℕ, List, [], ◌∷◌, ◌++◌, length, take, map, bit_xor, replicate, IfOk, MatchResult};
 ghost use Rattle.krb_der.specs.Encoding.{IsOctets};
 ghost use Rattle.krb_crypto_block.specs.Modes.{IsPadding};
-ghost use Rattle.examples.specs.Toy.{IsToy, IsToyRejection, IsToyUnopened};
+ghost use Rattle.test_rows.specs.Toy.{IsToy, IsToyRejection, IsToyUnopened};
 
-use picky_krb::crypto::{
+use krb_crypto::{
     ChecksumSuite, Cipher, CipherSuite, DecryptWithoutChecksum, EncryptWithoutChecksum,
     KerberosCryptoError, KerberosCryptoResult,
 };
