@@ -1,5 +1,5 @@
 -- What is written for an input, and why nothing is.
-use Rattle.std.specs.Prelude.{◌≡◌, ◌⊎◌, ℕ, ◌+◌, ◌-◌, Bool, true, false, List, [], ◌∷◌, ◌++◌, length, take, Option, Some, None, Result, Ok, Err, Vec}
+use Rattle.std.specs.Prelude.{◌≡◌, ◌⊎◌, ℕ, ◌+◌, ◌-◌, Bool, true, false, if◌then◌else◌, List, [], ◌∷◌, ◌++◌, length, take, Option, Some, None, Result, Ok, Err, Vec}
 use Rattle.std.specs.declared.alloc.Global.{Global}
 use Rattle.krb_show.specs.Tokens.{Token}
 use Rattle.krb_show_text.specs.Text.{AreLines, page_text, text_of_lines}
@@ -9,6 +9,7 @@ use Rattle.krb_show_any.specs.declared.kind.Kind.{Kind}
 use Rattle.krb_decrypt.specs.Hidden.{hidden_page}
 use Rattle.krb_decrypt.specs.Keys.{NamedKey}
 use Rattle.jolmurig.specs.Calls.{Breaks, Opens, Places}
+use Rattle.jolmurig.specs.Unknowns.{is_text, unknown_of}
 use Rattle.krb_show_pac.specs.Inserted.{IsWithContents}
 use Rattle.krb_decrypt.specs.PasswordKeys.{KeysOfPasswords}
 use Rattle.krb_decrypt.specs.Salts.{salts_of}
@@ -55,9 +56,9 @@ abbrev pub shown_keys : Bool → List Token → List Token
 shown_keys true page = page
 shown_keys false page = hidden_page page
 
--- the kind that is asked for, or that which octets begin as
+-- the kind that is asked for, or that which octets begin as, if they are not text
 abbrev pub chosen : Option Kind → List ℕ → Option Kind
-chosen None octets = kind_of octets
+chosen None octets = if is_text octets then None else kind_of octets
 chosen (Some kind) octets = Some kind
 
 -- what opens what is sealed: keys, and passwords; and whether all keys are tried that are found in what is opened
@@ -118,4 +119,4 @@ module _ (tells : Kind → List ℕ → Result (Vec Token Global) PageError → 
 
   -- or they begin as no kind
   abbrev pub IsRefused : Places → Option Kind → List ℕ → Failure → Type 0
-  IsRefused places asked octets e = ((e ≡ failure.UnknownKind) × (chosen asked octets ≡ None)) ⊎ HasNoPage places asked octets e
+  IsRefused places asked octets e = ((e ≡ failure.UnknownKind (unknown_of octets)) × (chosen asked octets ≡ None)) ⊎ HasNoPage places asked octets e

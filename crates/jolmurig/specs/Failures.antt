@@ -18,6 +18,8 @@ use Rattle.krb_show_text.specs.Text.{escaped}
 use Rattle.krb_show_text.specs.declared.escape.Style.TheVariants as style
 use Rattle.jolmurig.specs.Faults.{fault_text}
 use Rattle.jolmurig.specs.Files.{Gives, UnreadFile, unread_reason}
+use Rattle.jolmurig.specs.Hints.{hint_text}
+use Rattle.jolmurig.specs.Unknowns.{unknown_reason, unknown_subject}
 use Rattle.jolmurig.specs.declared.files.Purpose.{Purpose}
 use Rattle.jolmurig.specs.declared.files.Purpose.TheVariants as purpose
 use Rattle.jolmurig.specs.declared.files.Unread.{Unread}
@@ -99,7 +101,7 @@ subject (failure.NoFile f) = file_text f
 subject KeyInFile = codes "--key-file"
 subject (Keytab why) = codes "--keytab"
 subject NotBase64 = codes "base64"
-subject UnknownKind = codes "unknown kind"
+subject (UnknownKind unknown) = unknown_subject unknown
 subject NoEntries = codes "list"
 subject (Convert rule) = codes "convert"
 subject (Proxy rule) = breaker rule
@@ -147,33 +149,38 @@ rule_of_proxy (proxy.MsgType k) = codes "MsgType: msg-type is that of another me
 rule_of_proxy proxy.OutOfMemory = codes "an allocation failed"
 rule_of_proxy other = codes "the octets are no encoding"
 
+-- what happened, if it does not depend on a name that is given
+abbrev pub plain_reason : Failure → List ℕ
+plain_reason (Arguments fault) = codes "see jolmurig --help"
+plain_reason NotText = codes "see jolmurig --help"
+plain_reason (NoType name) = []
+plain_reason Key =
+    codes "a key is ETYPE:HEX, where ETYPE is 16 to 20 or the name of such an encryption type, and HEX the octets of a key of its length"
+plain_reason (failure.NoFile f) = unread_reason f.why
+plain_reason KeyInFile =
+    codes "the file holds no key ETYPE:HEX, where ETYPE is 16 to 20 or the name of such an encryption type, and HEX the octets of a key of its length"
+plain_reason (Keytab why) = page_reason (page.Keytab why)
+plain_reason NotBase64 = codes "the input begins as PEM or as a header of HTTP, and no base64 follows"
+plain_reason (UnknownKind unknown) = unknown_reason unknown
+plain_reason NoEntries = codes "the octets begin as neither a keytab nor a credential cache"
+plain_reason (Convert rule) = rule_of rule
+plain_reason (Proxy rule) = rule_of_proxy rule
+plain_reason (Octets kind why place) = page_reason why
+plain_reason Time = codes "a time is the seconds since 1970 in decimal, or as 2026-01-02T03:04:05Z, of a year of 0 to 9999"
+plain_reason Skew = codes "the skew is a number of seconds in decimal, of 0 to 4294967295"
+plain_reason Server = codes "a server is SERVICE/HOST@REALM, in ASCII, as HTTP/www.example.com@EXAMPLE.COM; the realm may be left out, and so may the host"
+plain_reason Realm = codes "a realm is one or more characters of ASCII, as EXAMPLE.COM"
+plain_reason Bindings = codes "channel bindings are 32 hexadecimal digits, an MD5"
+plain_reason (failure.Undecided why) = undecided_reason why
+plain_reason Refused = codes "the output says why"
+plain_reason Memory = codes "an allocation failed"
+plain_reason Read = codes "the input could not be read"
+plain_reason Write = codes "the output could not be written"
+
 -- what happened
 abbrev pub reason : Failure → List ℕ
-reason (Arguments fault) = codes "see jolmurig --help"
-reason NotText = codes "see jolmurig --help"
-reason (NoType name) = codes "see jolmurig --help"
-reason Key =
-    codes "a key is ETYPE:HEX, where ETYPE is 16 to 20 or the name of such an encryption type, and HEX the octets of a key of its length"
-reason (failure.NoFile f) = unread_reason f.why
-reason KeyInFile =
-    codes "the file holds no key ETYPE:HEX, where ETYPE is 16 to 20 or the name of such an encryption type, and HEX the octets of a key of its length"
-reason (Keytab why) = page_reason (page.Keytab why)
-reason NotBase64 = codes "the input begins as PEM or as a header of HTTP, and no base64 follows"
-reason UnknownKind = codes "the octets begin as no kind that is known; --as TYPE names one"
-reason NoEntries = codes "the octets begin as neither a keytab nor a credential cache"
-reason (Convert rule) = rule_of rule
-reason (Proxy rule) = rule_of_proxy rule
-reason (Octets kind why place) = page_reason why
-reason Time = codes "a time is the seconds since 1970 in decimal, or as 2026-01-02T03:04:05Z, of a year of 0 to 9999"
-reason Skew = codes "the skew is a number of seconds in decimal, of 0 to 4294967295"
-reason Server = codes "a server is SERVICE/HOST@REALM, in ASCII, as HTTP/www.example.com@EXAMPLE.COM; the realm may be left out, and so may the host"
-reason Realm = codes "a realm is one or more characters of ASCII, as EXAMPLE.COM"
-reason Bindings = codes "channel bindings are 32 hexadecimal digits, an MD5"
-reason (failure.Undecided why) = undecided_reason why
-reason Refused = codes "the output says why"
-reason Memory = codes "an allocation failed"
-reason Read = codes "the input could not be read"
-reason Write = codes "the output could not be written"
+reason (NoType name) = hint_text name
+reason e = plain_reason e
 
 -- what stands between these two
 abbrev pub mark : Failure → List ℕ

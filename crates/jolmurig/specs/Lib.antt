@@ -1,3 +1,6 @@
+pub mod Help
+pub mod Hints
+pub mod Unknowns
 pub mod Files
 pub mod Faults
 pub mod Failures

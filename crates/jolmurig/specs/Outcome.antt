@@ -34,6 +34,7 @@ use Rattle.jolmurig_command.specs.declared.fault.Fault.{Fault}
 use Rattle.jolmurig_command.specs.declared.command.Command.{Command}
 use Rattle.jolmurig_command.specs.declared.command.Command.TheVariants as command
 use Rattle.jolmurig_command.specs.declared.command.Command.TheVariants.{Help, Version}
+use Rattle.jolmurig_command.specs.declared.command.Topic.{Topic}
 use Rattle.jolmurig_command.specs.declared.command.Direction.{Direction}
 use Rattle.jolmurig_command.specs.declared.command.Format.{Format}
 use Rattle.jolmurig_command.specs.declared.command.Output.{Output}
@@ -295,10 +296,10 @@ module _ (tells : Kind → List ℕ → Result (Vec Token Global) PageError → 
   module _ (places : Places) (breaks : Breaks) (lists : Lists) (converts : Converts) (refuses : Refuses) (passes : Passes) (blocks : Blocks)
       (judges : Judges) (misjudges : Misjudges) (ticks : Ticks) where
     -- A run of this command, or with this fault of the arguments, over an input (`rest` of it is left), where its octets and those of the output (before and after) are known.
-    abbrev pub IsRun : Result Command Fault → List ℕ → List ℕ → Option (List ℕ) → Option (List ℕ) → Option (List ℕ) → Option (List ℕ) → Outcome → Type 0
+    abbrev pub IsRun : Result Command Fault → (Topic → List ℕ) → List ℕ → Option (List ℕ) → Option (List ℕ) → Option (List ℕ) → Option (List ℕ) → Outcome → Type 0
     IsRun (Err fault) help version input rest before after outcome = (outcome ≡ Err (Arguments fault)) × Keeps input rest × Keeps before after
-    IsRun (Ok Help) help version input rest before after outcome =
-        Keeps input rest × IsWrittenRun (λ made notes. (made ≡ help) × (notes ≡ [])) (λ e. ⊥) before after outcome
+    IsRun (Ok (Help page)) help version input rest before after outcome =
+        Keeps input rest × IsWrittenRun (λ made notes. (made ≡ help page) × (notes ≡ [])) (λ e. ⊥) before after outcome
     IsRun (Ok Version) help version input rest before after outcome =
         Keeps input rest × IsWrittenRun (λ made notes. (made ≡ version) × (notes ≡ [])) (λ e. ⊥) before after outcome
     IsRun (Ok (command.Show s)) help version input rest before after outcome = IsShowRun breaks places s input rest before after outcome
@@ -310,6 +311,6 @@ module _ (tells : Kind → List ℕ → Result (Vec Token Global) PageError → 
     IsRun (Ok (command.Accept a)) help version input rest before after outcome = IsAcceptRun gives ticks judges misjudges a input rest before after outcome
 
     -- A run with these arguments: that of the command that they ask for; or no memory was left to read them.
-    abbrev pub IsRunOf : List (List ℕ) → List ℕ → List ℕ → Option (List ℕ) → Option (List ℕ) → Option (List ℕ) → Option (List ℕ) → Outcome → Type 0
+    abbrev pub IsRunOf : List (List ℕ) → (Topic → List ℕ) → List ℕ → Option (List ℕ) → Option (List ℕ) → Option (List ℕ) → Option (List ℕ) → Outcome → Type 0
     IsRunOf arguments help version input rest before after outcome =
         IsRun (asked_by arguments) help version input rest before after outcome ⊎ ((outcome ≡ Err Memory) × Keeps input rest × Keeps before after)

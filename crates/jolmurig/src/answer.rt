@@ -9,6 +9,7 @@ ghost use Rattle.jolmurig.specs.declared.failure.Failure.TheVariants as failure;
 use crate::calls::Calls;
 use crate::failure::Failure;
 use crate::openers::Openers;
+use crate::unknown::{is_text, unknown_of};
 use jolmurig_command::Output;
 use krb_decrypt::{Key, MOST_FOUND, keys_of_passwords, without_keys};
 use krb_show::{Page, Token};
@@ -99,10 +100,13 @@ fn written(alloc: Global, output: Output, page: &[Token]) -> Result<Vec<u8>, All
     }
 }
 
-/// The kind of octets: the one that is asked for, or that which they begin as.
+/// The kind of octets: the one that is asked for, or that which they begin as, where they are not text.
 fn chosen(kind: Option<Kind>, octets: &[u8]) -> Option<Kind>
     ensures { result ≡ chosen kind octets.now }
 {
+    if kind.is_none() && is_text(octets) {
+        return None;
+    }
     match kind {
         Some(kind) => Some(kind),
         None => kind_of_octets(octets),
@@ -230,7 +234,7 @@ pub fn shown<S: Pages<Kind, PageError>, C: Calls>(
     ensures rejected { IfErr result (λ e. (e ≡ failure.Memory) ⊎ IsRefused S.tells C.opens C.places kind octets.now e) }
 {
     let Some(kind) = chosen(kind, octets) else {
-        return Err(Failure::UnknownKind);
+        return Err(Failure::UnknownKind(unknown_of(octets)));
     };
     match S::page_of(alloc, kind, octets) {
         Ok(page) => Ok(written_as::<C>(alloc, kind, output, shows_keys, openers, octets, page)?),

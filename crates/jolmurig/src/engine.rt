@@ -4,6 +4,7 @@ ghost use Rattle.std.specs.Prelude.{◌≡◌, ◌⊎◌, ◌++◌, ◌∷◌, [
 ghost use Rattle.std.specs.Io.KnownBytes.{Appends};
 ghost use Rattle.std.specs.String.{string_bytes};
 ghost use Rattle.jolmurig.specs.Failures.{line_of, status_of_failure};
+ghost use Rattle.jolmurig.specs.Help.{help_of};
 ghost use Rattle.jolmurig.specs.Outcome.{AreNotesWritten, HasTaken, IsAcceptRun, IsReportWritten};
 ghost use Rattle.jolmurig.specs.Outcome.{IsCheckRun, IsCheckRunAs, IsConvertRun, IsInputRejected, IsKindOf, IsLeft, IsLineWritten, IsListRun, IsMade, IsTold};
 ghost use Rattle.jolmurig.specs.Outcome.{IsNotMade, IsOfNoKind, IsPrepared, IsProxyRun, IsRun, IsRunOf, IsShowRun, IsUnprepared, Outcome, output_of, placed_output, status_of};
@@ -16,7 +17,9 @@ use crate::clock::Clock;
 use crate::convert::{Conversion, conversion_of};
 use crate::failure::Failure;
 use crate::files::Files;
-use crate::help::{HELP, VERSION};
+use crate::help::{
+    ACCEPT, CHECK, CONVERT, HELP, LIST, PROXY, SHOW, VERSION, page_of,
+};
 use crate::input::{read_input, read_octets};
 use crate::judge::{judge, undecided_of};
 use crate::keys::keys_of_sources;
@@ -24,7 +27,9 @@ use crate::list::list_of;
 use crate::openers::Openers;
 use crate::passwords::passwords_of_files;
 use crate::proxy::{Passed, passed_of};
-use jolmurig_command::{Accept, Command, Direction, Fault, Format, Output, Show, TypeName, parse};
+use jolmurig_command::{
+    Accept, Command, Direction, Fault, Format, Output, Show, Topic, TypeName, parse,
+};
 use krb_accept_report::Report;
 use krb_io::write_all;
 use krb_show_any::{Kind, PageError, Pages, kind_of_name};
@@ -162,12 +167,19 @@ fn write_made<W: Write>(
     Ok(Vec::new(alloc))
 }
 
-/// Writes the help.
-fn write_help<W: Write>(alloc: Global, output: &mut W) -> Result<Vec<u8>, Failure<'static>>
-    ensures { MatchResult result (λ notes. (notes.items ≡ []) × Appends (W.contents output.old) (W.contents output.new) HELP.now)
-        (λ e. (e ≡ Failure.Write) × HasTaken HELP.now (W.contents output.old) (W.contents output.new)) }
+/// Writes a page of the help.
+fn write_help<W: Write>(
+    alloc: Global,
+    topic: Topic,
+    output: &mut W,
+) -> Result<Vec<u8>, Failure<'static>>
+    ensures { MatchResult result
+        (λ notes. (notes.items ≡ []) × Appends (W.contents output.old) (W.contents output.new)
+            (help_of HELP.now SHOW.now CHECK.now LIST.now CONVERT.now PROXY.now ACCEPT.now topic))
+        (λ e. (e ≡ Failure.Write) × HasTaken (help_of HELP.now SHOW.now CHECK.now LIST.now CONVERT.now PROXY.now ACCEPT.now topic)
+            (W.contents output.old) (W.contents output.new)) }
 {
-    write_made(alloc, output, HELP.as_bytes())
+    write_made(alloc, output, page_of(topic).as_bytes())
 }
 
 /// Writes the version.
@@ -353,12 +365,13 @@ fn obey<'a, S: Pages<Kind, PageError>, C: Calls, F: Files + Clock, R: Read, W: W
     input: &mut R,
     output: &mut W,
 ) -> Result<Vec<u8>, Failure<'a>>
-    ensures { IsRun S.tells C.opens (F.gives files.now) C.places C.breaks C.lists C.converts C.unconverted C.passes C.blocks C.judges C.misjudges (F.ticks files.now) command.entry HELP.now VERSION.now
+    ensures { IsRun S.tells C.opens (F.gives files.now) C.places C.breaks C.lists C.converts C.unconverted C.passes C.blocks C.judges C.misjudges (F.ticks files.now) command.entry
+        (help_of HELP.now SHOW.now CHECK.now LIST.now CONVERT.now PROXY.now ACCEPT.now) VERSION.now
         (R.remaining input.old) (R.remaining input.new) (W.contents output.old) (W.contents output.new) result }
 {
     match command {
         Err(fault) => Err(Failure::Arguments(fault)),
-        Ok(Command::Help) => write_help(alloc, output),
+        Ok(Command::Help(topic)) => write_help(alloc, topic, output),
         Ok(Command::Version) => write_version(alloc, output),
         Ok(Command::Show(asked)) => show::<S, C, F, R, W>(alloc, &asked, files, input, output),
         Ok(Command::Check(name, of)) => {
@@ -383,7 +396,8 @@ fn perform<'a, S: Pages<Kind, PageError>, C: Calls, F: Files + Clock, R: Read, W
     input: &mut R,
     output: &mut W,
 ) -> Result<Vec<u8>, Failure<'a>>
-    ensures { IsRunOf S.tells C.opens (F.gives files.now) C.places C.breaks C.lists C.converts C.unconverted C.passes C.blocks C.judges C.misjudges (F.ticks files.now) (map string_bytes arguments.now) HELP.now VERSION.now
+    ensures { IsRunOf S.tells C.opens (F.gives files.now) C.places C.breaks C.lists C.converts C.unconverted C.passes C.blocks C.judges C.misjudges (F.ticks files.now) (map string_bytes arguments.now)
+        (help_of HELP.now SHOW.now CHECK.now LIST.now CONVERT.now PROXY.now ACCEPT.now) VERSION.now
         (R.remaining input.old) (R.remaining input.new) (W.contents output.old) (W.contents output.new) result }
 {
     let command = parse(alloc, arguments)?;
@@ -444,7 +458,8 @@ pub fn run<S: Pages<Kind, PageError>, C: Calls, F: Files + Clock, R: Read, W: Wr
 ) -> Ended
     ensures ran { (outcome : Outcome) × (result.status ≡ status_of outcome)
         × IsLineWritten (E.contents errors.old) (E.contents errors.new) result.told outcome
-        × IsRunOf S.tells C.opens (F.gives files.now) C.places C.breaks C.lists C.converts C.unconverted C.passes C.blocks C.judges C.misjudges (F.ticks files.now) (map string_bytes arguments.now) HELP.now VERSION.now
+        × IsRunOf S.tells C.opens (F.gives files.now) C.places C.breaks C.lists C.converts C.unconverted C.passes C.blocks C.judges C.misjudges (F.ticks files.now) (map string_bytes arguments.now)
+        (help_of HELP.now SHOW.now CHECK.now LIST.now CONVERT.now PROXY.now ACCEPT.now) VERSION.now
         (R.remaining input.old) (R.remaining input.new) (W.contents output.old) (W.contents output.new) outcome }
 {
     match perform::<S, C, F, R, W>(alloc, arguments, files, input, output) {

@@ -7,10 +7,12 @@ ghost use Rattle.jolmurig.specs.declared.failure.Failure.TheVariants as failures
 ghost use Rattle.krb_show_text.specs.Text.{escaped};
 ghost use Rattle.krb_show_text.specs.declared.escape.Style.TheVariants as style;
 ghost use Rattle.jolmurig.specs.Files.{unread_reason};
-ghost use Rattle.jolmurig.specs.Failures.{breaker, file_text, kind_of_message, line_of, of_input, mark, option_of, own_line, place, place_text, placed, reason, rule_of, rule_of_proxy, status_of_failure, subject, undecided_reason, undecided_subject};
+ghost use Rattle.jolmurig.specs.Failures.{breaker, file_text, kind_of_message, line_of, of_input, mark, option_of, own_line, place, place_text, placed, plain_reason, reason, rule_of, rule_of_proxy, status_of_failure, subject, undecided_reason, undecided_subject};
 
 use crate::fault::push_fault;
 use crate::files::{Purpose, Unread, UnreadFile};
+use crate::hints::push_hint;
+use crate::unknown::Unknown;
 use jolmurig_command::{Fault, TypeName};
 use krb_file_tools::convert::ConvertError;
 use krb_files::keytab::KeytabError;
@@ -59,8 +61,8 @@ pub enum Failure<'a> {
     Keytab(KeytabError),
     /// The input begins as PEM or as a header of HTTP, and what follows is no base64.
     NotBase64,
-    /// The octets begin as no kind that is told by first octets.
-    UnknownKind,
+    /// The octets begin as no kind that is told by first octets: what they are.
+    UnknownKind(Unknown),
     /// The octets begin as neither a keytab nor a credential cache.
     NoEntries,
     /// The octets are not converted: the rule that they break.
@@ -286,7 +288,7 @@ impl<'a> Failure<'a> {
             Failure::KeyInFile => line.extend_from_slice(b"--key-file"),
             Failure::Keytab(_) => line.extend_from_slice(b"--keytab"),
             Failure::NotBase64 => line.extend_from_slice(b"base64"),
-            Failure::UnknownKind => line.extend_from_slice(b"unknown kind"),
+            Failure::UnknownKind(unknown) => line.extend_from_slice(unknown.subject().as_bytes()),
             Failure::NoEntries => line.extend_from_slice(b"list"),
             Failure::Convert(_) => line.extend_from_slice(b"convert"),
             Failure::Proxy(rule) => line.extend_from_slice(breaker(rule).as_bytes()),
@@ -307,12 +309,13 @@ impl<'a> Failure<'a> {
         }
     }
 
-    /// What happened.
-    fn reason(&self) -> &'static str
-        ensures { result.now ≡ reason self.now }
+    /// What happened, where it does not depend on a name that is given.
+    fn plain_reason(&self) -> &'static str
+        ensures { result.now ≡ plain_reason self.now }
     {
         match self {
-            Failure::Arguments(_) | Failure::NotText | Failure::NoType(_) => "see jolmurig --help",
+            Failure::Arguments(_) | Failure::NotText => "see jolmurig --help",
+            Failure::NoType(_) => "",
             Failure::Key =>
                 "a key is ETYPE:HEX, where ETYPE is 16 to 20 or the name of such an encryption type, and HEX the octets of a key of its length",
             Failure::NoFile(file) => unread_reason(file.why),
@@ -321,8 +324,7 @@ impl<'a> Failure<'a> {
             Failure::Keytab(why) => PageError::Keytab(*why).reason(),
             Failure::NotBase64 =>
                 "the input begins as PEM or as a header of HTTP, and no base64 follows",
-            Failure::UnknownKind =>
-                "the octets begin as no kind that is known; --as TYPE names one",
+            Failure::UnknownKind(unknown) => unknown.reason(),
             Failure::NoEntries => "the octets begin as neither a keytab nor a credential cache",
             Failure::Convert(rule) => rule_of(rule),
             Failure::Proxy(rule) => rule_of_proxy(rule),
@@ -370,6 +372,16 @@ impl<'a> Failure<'a> {
         }
     }
 
+    /// Appends what happened.
+    fn push_reason(&self, alloc: Global, line: &mut Vec<u8>) -> Result<(), AllocError>
+        ensures { OnOk result (line.new.items ≡ line.old.items ++ reason self.now) }
+    {
+        match self {
+            Failure::NoType(name) => push_hint(line, alloc, name.text),
+            _ => line.extend_from_slice(self.plain_reason().as_bytes()),
+        }
+    }
+
     /// The line of a failure that has one.
     fn own_line(&self, alloc: Global) -> Result<Vec<u8>, AllocError>
         ensures { IfOk result (λ line. line.items ≡ own_line self.now) }
@@ -378,7 +390,7 @@ impl<'a> Failure<'a> {
         line.extend_from_slice(b"jolmurig: ")?;
         self.push_subject(&mut line)?;
         line.extend_from_slice(self.mark().as_bytes())?;
-        line.extend_from_slice(self.reason().as_bytes())?;
+        self.push_reason(alloc, &mut line)?;
         push_place(&mut line, alloc, self.place())?;
         line.push(b'\n')?;
         Ok(line)

@@ -11,6 +11,7 @@ mod failure;
 mod fault;
 mod files;
 mod help;
+mod hints;
 mod input;
 mod judge;
 mod keys;
@@ -19,6 +20,7 @@ mod openers;
 mod passwords;
 mod proxy;
 mod terms;
+mod unknown;
 mod warning;
 
 use calls::Library;

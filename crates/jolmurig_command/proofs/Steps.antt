@@ -5,6 +5,7 @@ use Rattle.jolmurig_command.specs.Accepts.{Accept}
 use Rattle.jolmurig_command.specs.Arguments.{check_of, is_valued, of_operand, options_of, with_one, with_value}
 use Rattle.jolmurig_command.specs.Words.{ends_options, is_help, is_word}
 use Rattle.jolmurig_command.specs.declared.command.Command.TheVariants as command
+use Rattle.jolmurig_command.specs.declared.command.Topic.TheVariants as topic
 use Rattle.jolmurig_command.specs.Shows.{Show}
 
 -- behind an option in one argument, or a file
@@ -37,5 +38,5 @@ behind_accept_value text a next w rest behind value p h e v f = rw (p, h, e, v, 
 -- `check --as TYPE` in two arguments
 pub as_two : {T : Type 0} (text : T → List ℕ) (words : List T) (w name : T) (rest behind : List T) → words ≡ w ∷ rest → rest ≡ name ∷ behind
     → is_help (text w) ≡ false → is_word (text w) (codes "--as") ≡ true
-    → check_of (map text words) ≡ of_operand (command.Check (text name)) (map text behind)
+    → check_of (map text words) ≡ of_operand topic.Check (command.Check (text name)) (map text behind)
 as_two text words w name rest behind p q h a = rw (p, q, h, a) refl

@@ -9,6 +9,7 @@ use Rattle.jolmurig_command.specs.declared.fault.Fault.{Fault}
 use Rattle.jolmurig_command.specs.declared.fault.Fault.TheVariants as fault
 use Rattle.jolmurig_command.specs.declared.command.Command.{Command}
 use Rattle.jolmurig_command.specs.declared.command.Command.TheVariants as command
+use Rattle.jolmurig_command.specs.declared.command.Topic.TheVariants as topic
 
 -- what is asked for then, if this option was not given before
 abbrev pub once : {A : Type 0} → List ℕ → Option A → Accept → Result Accept Fault
@@ -93,12 +94,12 @@ accept_one w a = if accept_valued (name_of w) then accept_value (name_of w) (val
 abbrev pub accept_options : Accept → List (List ℕ) → Result Command Fault
 accept_options a [] = accept_asked a
 accept_options a (w ∷ []) =
-    if is_help w then Ok command.Help
+    if is_help w then Ok (command.Help topic.Accept)
     else if ends_options w then accept_end a []
     else if accept_valued w then Err (fault.NoValue w)
     else and_then (λ next. accept_options next []) (accept_one w a)
 accept_options a (w ∷ value ∷ rest) =
-    if is_help w then Ok command.Help
+    if is_help w then Ok (command.Help topic.Accept)
     else if ends_options w then accept_end a (value ∷ rest)
     else if accept_valued w then and_then (λ next. accept_options next rest) (accept_value w value a)
     else and_then (λ next. accept_options next (value ∷ rest)) (accept_one w a)

@@ -17,6 +17,8 @@ use Rattle.jolmurig_command.specs.declared.command.Output.{Output}
 use Rattle.jolmurig_command.specs.declared.command.Output.TheVariants as output
 use Rattle.jolmurig_command.specs.declared.command.SourceKind.{SourceKind}
 use Rattle.jolmurig_command.specs.declared.command.SourceKind.TheVariants as source
+use Rattle.jolmurig_command.specs.declared.command.Topic.{Topic}
+use Rattle.jolmurig_command.specs.declared.command.Topic.TheVariants as topic
 
 -- ---- options of `show` without a value; a tree once, and one output
 
@@ -131,12 +133,12 @@ with_one w s = if is_valued (name_of w) then with_value (name_of w) (value_of w)
 abbrev pub options_of : Show → List (List ℕ) → Result Command Fault
 options_of s [] = Ok (command.Show s)
 options_of s (w ∷ []) =
-    if is_help w then Ok command.Help
+    if is_help w then Ok (command.Help topic.Show)
     else if ends_options w then behind_end s []
     else if is_valued w then Err (fault.NoValue w)
     else and_then (λ next. options_of next []) (with_one w s)
 options_of s (w ∷ value ∷ rest) =
-    if is_help w then Ok command.Help
+    if is_help w then Ok (command.Help topic.Show)
     else if ends_options w then behind_end s (value ∷ rest)
     else if is_valued w then and_then (λ next. options_of next rest) (with_value w value s)
     else and_then (λ next. options_of next (value ∷ rest)) (with_one w s)
@@ -162,20 +164,20 @@ abbrev pub operand_of : List (List ℕ) → Result (Option (List ℕ)) Fault
 operand_of [] = Ok None
 operand_of (w ∷ rest) = if ends_options w then last_operand rest else only (named w) (stray w) stray rest
 
--- what a command without options asks for
-abbrev pub of_operand : (Option (List ℕ) → Command) → List (List ℕ) → Result Command Fault
-of_operand made words = if begins_with_help words then Ok command.Help else and_then (λ file. Ok (made file)) (operand_of words)
+-- what a command without options asks for: this page of the help, or what the file makes
+abbrev pub of_operand : Topic → (Option (List ℕ) → Command) → List (List ℕ) → Result Command Fault
+of_operand page made words = if begins_with_help words then Ok (command.Help page) else and_then (λ file. Ok (made file)) (operand_of words)
 
 -- `check --as=TYPE` in one argument, with the file behind it
 abbrev pub check_by : List ℕ → List (List ℕ) → Result Command Fault
-check_by w rest = if is_word (name_of w) (codes "--as") then of_operand (command.Check (value_of w)) rest else Err fault.NoType
+check_by w rest = if is_word (name_of w) (codes "--as") then of_operand topic.Check (command.Check (value_of w)) rest else Err fault.NoType
 
 -- `check --as TYPE`, with the file
 abbrev pub check_of : List (List ℕ) → Result Command Fault
 check_of [] = Err fault.NoType
-check_of (w ∷ []) = if is_help w then Ok command.Help else if is_word w (codes "--as") then Err (fault.NoValue w) else check_by w []
+check_of (w ∷ []) = if is_help w then Ok (command.Help topic.Check) else if is_word w (codes "--as") then Err (fault.NoValue w) else check_by w []
 check_of (w ∷ name ∷ rest) =
-    if is_help w then Ok command.Help else if is_word w (codes "--as") then of_operand (command.Check name) rest else check_by w (name ∷ rest)
+    if is_help w then Ok (command.Help topic.Check) else if is_word w (codes "--as") then of_operand topic.Check (command.Check name) rest else check_by w (name ∷ rest)
 
 -- the format of this name
 abbrev pub format_of : List ℕ → Option Format
@@ -184,11 +186,11 @@ format_of w = if is_word w (codes "kirbi") then Some format.Kirbi else if is_wor
 -- `convert FORMAT`, with the file
 abbrev pub conversion_of : List (List ℕ) → Result Command Fault
 conversion_of [] = Err fault.NoFormat
-conversion_of (w ∷ rest) = if is_help w then Ok command.Help else by (format_of w)
+conversion_of (w ∷ rest) = if is_help w then Ok (command.Help topic.Convert) else by (format_of w)
   where
     by : Option Format → Result Command Fault
     by None = Err fault.NoFormat
-    by (Some to) = of_operand (command.Convert to) rest
+    by (Some to) = of_operand topic.Convert (command.Convert to) rest
 
 -- the direction of this name
 abbrev pub direction_of : List ℕ → Option Direction
@@ -197,18 +199,18 @@ direction_of w = if is_word w (codes "request") then Some direction.Request else
 -- `proxy DIRECTION`, with the file
 abbrev pub proxy_of : List (List ℕ) → Result Command Fault
 proxy_of [] = Err fault.NoDirection
-proxy_of (w ∷ rest) = if is_help w then Ok command.Help else by (direction_of w)
+proxy_of (w ∷ rest) = if is_help w then Ok (command.Help topic.Proxy) else by (direction_of w)
   where
     by : Option Direction → Result Command Fault
     by None = Err fault.NoDirection
-    by (Some way) = of_operand (command.Proxy way) rest
+    by (Some way) = of_operand topic.Proxy (command.Proxy way) rest
 
 -- what a command's name and the arguments behind it ask for
 abbrev pub command_of : List ℕ → List (List ℕ) → Result Command Fault
 command_of name rest =
     if is_word name (codes "show") then options_of nothing_asked rest
     else if is_word name (codes "check") then check_of rest
-    else if is_word name (codes "list") then of_operand command.List rest
+    else if is_word name (codes "list") then of_operand topic.List command.List rest
     else if is_word name (codes "convert") then conversion_of rest
     else if is_word name (codes "proxy") then proxy_of rest
     else if is_word name (codes "accept") then accept_options no_option rest
@@ -218,4 +220,6 @@ command_of name rest =
 abbrev pub asked_by : List (List ℕ) → Result Command Fault
 asked_by [] = Err fault.NoCommand
 asked_by (name ∷ rest) =
-    if is_help name then Ok command.Help else if is_word name (codes "--version") then Ok command.Version else command_of name rest
+    if is_help name then Ok (command.Help topic.Program)
+    else if is_word name (codes "--version") then Ok command.Version
+    else command_of name rest

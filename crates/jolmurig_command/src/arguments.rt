@@ -9,10 +9,11 @@ ghost use Rattle.jolmurig_command.specs.Arguments.{with_tree, with_type, with_va
 ghost use Rattle.jolmurig_command.specs.Shows.{nothing_asked};
 ghost use Rattle.jolmurig_command.specs.Words.{ends_options, input, is_help, is_word, name_of, named, named_behind, value_of};
 ghost use Rattle.jolmurig_command.specs.declared.command.Command.TheVariants as command;
+ghost use Rattle.jolmurig_command.specs.declared.command.Topic.TheVariants as topic;
 ghost use Rattle.jolmurig_command.specs.declared.fault.Fault.TheVariants as fault;
 
 use crate::command::{
-    Command, Direction, FileName, Format, Operand, Output, Show, Source, SourceKind, TypeName,
+    Command, Direction, FileName, Format, Operand, Output, Show, Source, SourceKind, Topic, TypeName,
 };
 use crate::fault::{Fault, Word, is_option, stray, unexpected, unknown_command};
 use crate::parse_accept::accept_of;
@@ -374,7 +375,7 @@ fn with_options<'a>(
     let mut rest = words;
     'options: while let Some((word, behind)) = rest.split_first() {
         if is_help(word.as_str()) {
-            return Ok(Ok(Command::Help));
+            return Ok(Ok(Command::Help(Topic::Show)));
         }
         if ends_options(word.as_str()) {
             return Ok(behind_end(asked, behind));
@@ -455,20 +456,20 @@ fn operand_of(words: &[String]) -> Result<Operand<'_>, Fault<'_>>
 
 /// What the arguments of `list` ask for.
 fn list_of(words: &[String]) -> Result<Command<'_>, Fault<'_>>
-    ensures { result ≡ of_operand (command.List) (map string_bytes words.now) }
+    ensures { result ≡ of_operand topic.List command.List (map string_bytes words.now) }
 {
     if begins_with_help(words) {
-        return Ok(Command::Help);
+        return Ok(Command::Help(Topic::List));
     }
     Ok(Command::List(operand_of(words)?))
 }
 
 /// What the arguments of `convert` ask for behind the format.
 fn conversion_to(format: Format, words: &[String]) -> Result<Command<'_>, Fault<'_>>
-    ensures { result ≡ of_operand (command.Convert format) (map string_bytes words.now) }
+    ensures { result ≡ of_operand topic.Convert (command.Convert format) (map string_bytes words.now) }
 {
     if begins_with_help(words) {
-        return Ok(Command::Help);
+        return Ok(Command::Help(Topic::Convert));
     }
     Ok(Command::Convert(format, operand_of(words)?))
 }
@@ -494,7 +495,7 @@ fn conversion_of(words: &[String]) -> Result<Command<'_>, Fault<'_>>
         return Err(Fault::NoFormat);
     };
     if is_help(word.as_str()) {
-        return Ok(Command::Help);
+        return Ok(Command::Help(Topic::Convert));
     }
     match format_of(word.as_str()) {
         Some(format) => conversion_to(format, rest),
@@ -504,10 +505,10 @@ fn conversion_of(words: &[String]) -> Result<Command<'_>, Fault<'_>>
 
 /// What the arguments of `proxy` ask for behind the direction.
 fn proxy_to(direction: Direction, words: &[String]) -> Result<Command<'_>, Fault<'_>>
-    ensures { result ≡ of_operand (command.Proxy direction) (map string_bytes words.now) }
+    ensures { result ≡ of_operand topic.Proxy (command.Proxy direction) (map string_bytes words.now) }
 {
     if begins_with_help(words) {
-        return Ok(Command::Help);
+        return Ok(Command::Help(Topic::Proxy));
     }
     Ok(Command::Proxy(direction, operand_of(words)?))
 }
@@ -533,7 +534,7 @@ fn proxy_of(words: &[String]) -> Result<Command<'_>, Fault<'_>>
         return Err(Fault::NoDirection);
     };
     if is_help(word.as_str()) {
-        return Ok(Command::Help);
+        return Ok(Command::Help(Topic::Proxy));
     }
     match direction_of(word.as_str()) {
         Some(direction) => proxy_to(direction, rest),
@@ -543,10 +544,10 @@ fn proxy_of(words: &[String]) -> Result<Command<'_>, Fault<'_>>
 
 /// What the arguments of `check` ask for behind the name of the type.
 fn check_as<'a>(name: &'a str, words: &'a [String]) -> Result<Command<'a>, Fault<'a>>
-    ensures { result ≡ of_operand (command.Check name.now) (map string_bytes words.now) }
+    ensures { result ≡ of_operand topic.Check (command.Check name.now) (map string_bytes words.now) }
 {
     if begins_with_help(words) {
-        return Ok(Command::Help);
+        return Ok(Command::Help(Topic::Check));
     }
     Ok(Command::Check(TypeName { text: name }, operand_of(words)?))
 }
@@ -570,7 +571,7 @@ fn check_of(words: &[String]) -> Result<Command<'_>, Fault<'_>>
         return Err(Fault::NoType);
     };
     if is_help(word.as_str()) {
-        return Ok(Command::Help);
+        return Ok(Command::Help(Topic::Check));
     }
     if !is_word(word.as_str(), "--as") {
         return check_by(word.as_str(), rest);
@@ -620,7 +621,7 @@ pub fn parse<'a>(
         return Ok(Err(Fault::NoCommand));
     };
     if is_help(name.as_str()) {
-        return Ok(Ok(Command::Help));
+        return Ok(Ok(Command::Help(Topic::Program)));
     }
     if is_word(name.as_str(), "--version") {
         return Ok(Ok(Command::Version));

@@ -218,11 +218,30 @@ impl<'a> Model for Accept<'a> {
     } };
 }
 
+/// A page of the help.
+#[derive(Clone, Copy, PartialEq, Eq)]
+pub enum Topic {
+    /// The program: its commands, and what is true of all of them.
+    Program,
+    /// `show`.
+    Show,
+    /// `check`.
+    Check,
+    /// `list`.
+    List,
+    /// `convert`.
+    Convert,
+    /// `proxy`.
+    Proxy,
+    /// `accept`.
+    Accept,
+}
+
 /// What is asked for by the arguments.
 #[derive(Drop)]
 pub enum Command<'a> {
-    /// Help: the option `--help`.
-    Help,
+    /// A page of the help: the option `--help`, that of a command behind its name.
+    Help(Topic),
     /// The version: the option `--version`.
     Version,
     /// What a file or standard input holds: `show`.

@@ -9,6 +9,6 @@ mod parse_accept;
 pub use arguments::parse;
 pub use command::{
     Accept, Command, Direction, FileName, Format, NameText, Operand, Output, Show, Source,
-    SourceKind, TypeName,
+    SourceKind, Topic, TypeName,
 };
 pub use fault::{Fault, Word};

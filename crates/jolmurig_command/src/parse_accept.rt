@@ -8,7 +8,7 @@ ghost use Rattle.jolmurig_command.specs.Accepts.{no_option};
 ghost use Rattle.jolmurig_command.specs.Words.{ends_options, is_help};
 
 use crate::arguments::{Joined, ends_options, is_help, is_word, named, named_behind, split};
-use crate::command::{Accept, Command, NameText, Operand};
+use crate::command::{Accept, Command, NameText, Operand, Topic};
 use crate::fault::{Fault, Word, stray, unexpected};
 use krb_accept::PacCheck;
 use std::alloc::{AllocError, Global};
@@ -314,7 +314,7 @@ fn accept_options<'a>(
     let mut rest = words;
     'options: while let Some((word, behind)) = rest.split_first() {
         if is_help(word.as_str()) {
-            return Ok(Ok(Command::Help));
+            return Ok(Ok(Command::Help(Topic::Accept)));
         }
         if ends_options(word.as_str()) {
             return Ok(accept_end(so_far, behind));

@@ -88,17 +88,17 @@ static TYPES: [&str; 48] = [
     "TSRemoteGuardPackageCred",
 ];
 
-/// The messages and the opened parts.
+/// The messages and the opened parts (RFC 4120, 5.10): the first octet of their encodings, and their names.
 #[tactic(auto, unfolding(crate::specs::Types::applications))]
-fn applications() -> &'static [(u8, &'static str)]
+pub fn applications() -> &'static [(u8, &'static str)]
     ensures { map (λ row. (row.0, row.1.now)) result.now ≡ applications }
 {
     &APPLICATIONS
 }
 
-/// The types.
+/// The names of the types that no first octet tells, as their standards spell them.
 #[tactic(auto, unfolding(crate::specs::Types::type_names))]
-fn types() -> &'static [&'static str]
+pub fn named_types() -> &'static [&'static str]
     ensures { map (λ name. name.now) result.now ≡ type_names }
 {
     &TYPES
@@ -168,7 +168,7 @@ pub fn name_of_tag(tag: u8) -> Option<&'static str>
 pub fn type_of_name(name: &str) -> Option<&'static str>
     ensures { option_copied result ≡ type_in type_names name.now }
 {
-    type_in(types(), name)
+    type_in(named_types(), name)
 }
 
 /// Whether this is the name, letter by letter.
