@@ -41,8 +41,4 @@ near_names name = near_rows (front_of name) applications ++ near_text (front_of 
 
 -- what is said of a name that no kind has: these, or where names stand
 abbrev pub hint_text : List ℕ → List ℕ
-hint_text name = asked (near_names name)
-  where
-    asked : List ℕ → List ℕ
-    asked [] = codes "see jolmurig show --help"
-    asked (octet ∷ rest) = codes "did you mean" ++ octet ∷ rest
+hint_text name = if nat_eq (length (near_names name)) 0 then codes "see jolmurig show --help" else codes "did you mean" ++ near_names name
