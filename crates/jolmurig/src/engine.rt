@@ -17,9 +17,7 @@ use crate::clock::Clock;
 use crate::convert::{Conversion, conversion_of};
 use crate::failure::Failure;
 use crate::files::Files;
-use crate::help::{
-    ACCEPT, CHECK, CONVERT, HELP, LIST, PROXY, SHOW, VERSION, page_of,
-};
+use crate::help::{ACCEPT, CHECK, CONVERT, HELP, LIST, PROXY, SHOW, VERSION, page_of};
 use crate::input::{read_input, read_octets};
 use crate::judge::{judge, undecided_of};
 use crate::keys::keys_of_sources;
@@ -175,9 +173,9 @@ fn write_help<W: Write>(
 ) -> Result<Vec<u8>, Failure<'static>>
     ensures { MatchResult result
         (λ notes. (notes.items ≡ []) × Appends (W.contents output.old) (W.contents output.new)
-            (help_of HELP.now SHOW.now CHECK.now LIST.now CONVERT.now PROXY.now ACCEPT.now topic))
+        (help_of HELP.now SHOW.now CHECK.now LIST.now CONVERT.now PROXY.now ACCEPT.now topic))
         (λ e. (e ≡ Failure.Write) × HasTaken (help_of HELP.now SHOW.now CHECK.now LIST.now CONVERT.now PROXY.now ACCEPT.now topic)
-            (W.contents output.old) (W.contents output.new)) }
+        (W.contents output.old) (W.contents output.new)) }
 {
     write_made(alloc, output, page_of(topic).as_bytes())
 }

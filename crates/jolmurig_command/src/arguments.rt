@@ -13,7 +13,8 @@ ghost use Rattle.jolmurig_command.specs.declared.command.Topic.TheVariants as to
 ghost use Rattle.jolmurig_command.specs.declared.fault.Fault.TheVariants as fault;
 
 use crate::command::{
-    Command, Direction, FileName, Format, Operand, Output, Show, Source, SourceKind, Topic, TypeName,
+    Command, Direction, FileName, Format, Operand, Output, Show, Source, SourceKind, Topic,
+    TypeName,
 };
 use crate::fault::{Fault, Word, is_option, stray, unexpected, unknown_command};
 use crate::parse_accept::accept_of;

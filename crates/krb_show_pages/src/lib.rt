@@ -14,6 +14,4 @@ pub use pages::{
     is_message, is_part, is_reply, page_of_application, page_of_message, page_of_part, page_of_type,
 };
 pub use replies::page_of_reply;
-pub use types::{
-    applications, is_same_name, name_of_tag, named_types, tag_of_name, type_of_name,
-};
+pub use types::{applications, is_same_name, name_of_tag, named_types, tag_of_name, type_of_name};

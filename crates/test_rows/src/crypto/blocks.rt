@@ -1,8 +1,7 @@
 //! Blocks, and their modes.
 
 use crate::crypto::row::{Answer, Row, answer_of, block_of, copied, size_of, text_of};
-use krb_crypto_aes_tables::agree;
-use krb_crypto_aes_tables::AesTableKey;
+use krb_crypto_aes_tables::{AesTableKey, agree};
 use krb_crypto_block::KerberosCryptoResult;
 use krb_crypto_suite_types::aes::{
     AesKey, AesSize, decrypt_aes_cbc, decrypt_aes_cts, encrypt_aes_cbc, encrypt_aes_cts,
