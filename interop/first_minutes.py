@@ -20,6 +20,8 @@ NAMES = ("jolmurig", "libkrbc-dev", "libkrbc2", "python3-krb")
 LOGIN = {"PATH": "/usr/local/sbin:/usr/local/bin:/usr/sbin:/usr/bin:/sbin:/bin", "HOME": "/root", "USER": "root", "LOGNAME": "root", "SHELL": "/bin/bash", "LANG": "C.UTF-8"}
 HOSTS = b"127.0.0.1\tlocalhost\n127.0.1.1\tdebian\n::1\tlocalhost ip6-localhost ip6-loopback\n"
 MARK = "\x1e"
+# Waits until one socket more listens, a minute at most, so that a slow machine is none that fails.
+LISTENS = "for _ in {1..600}; do [ $(grep -c ' 0A ' /proc/net/tcp) -gt $listening ] && break; sleep 0.1; done; true"
 PASSWORD = "a password"  # of examples/realm
 
 
@@ -61,9 +63,9 @@ def typed(folder, commands, network):
         if found:
             text = "\n".join(wanted).rstrip("\n")
             script.append("[ -e %s ] || cat >%s <<'%s'\n%s\n%s\n" % (found[1], found[1], MARK, text, MARK))
-        # A program behind `&` begins while the person types on.
-        line = command + "\nsleep 2; true" if command.endswith("&") else "{ %s\n} <%s" % (command, answer)
-        script.append("printf '%s\\n'\n%s\nprintf '%s%%s\\n' $?\n" % (MARK, line, MARK))
+        # A server behind `&` is there before the person types on.
+        line = "%s\n%s" % (command, LISTENS) if command.endswith("&") else "{ %s\n} <%s" % (command, answer)
+        script.append("listening=$(grep -c ' 0A ' /proc/net/tcp)\nprintf '%s\\n'\n%s\nprintf '%s%%s\\n' $?\n" % (MARK, line, MARK))
     script.append("kill $(jobs -p) 2>/dev/null\nwait\n")
     folder.put("".join(script).encode("utf-8"), "/tmp/script")
     where = PACKAGES if network else "/root"
