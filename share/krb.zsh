@@ -93,7 +93,7 @@ _krb() {
             _arguments -S \
                 '(-h --help)-h[tell all arguments]' \
                 '(-h --help)--help[tell all arguments]' \
-                '(--port)--port:N: '
+                '(--port)--port[the port, 1 to 65535; without it one that is free]:N: '
             ;;
         kinit)
             _arguments -S \

@@ -147,11 +147,6 @@ def add_capture(parser: argparse.ArgumentParser) -> None:
     parser.add_argument("--seconds", metavar="N", type=_seconds, help="stop after so many seconds (300 of a file, never of a pipe); 0: never")
 
 
-def _add_web(parser: argparse.ArgumentParser) -> None:
-    """`krb.web` has the arguments of the command web: here is what completes them. docs/krb_command compares the two."""
-    parser.add_argument("--port", type=int, metavar="N")
-
-
 def _add_cache(parser: argparse.ArgumentParser) -> None:
     parser.add_argument("-c", dest="cache", metavar="CACHE", help="the file of tickets; else $KRB5CCNAME or /tmp/krb5cc_UID")
 
@@ -209,7 +204,7 @@ def _add_kpasswd(parser: argparse.ArgumentParser) -> None:
 
 
 _ADD = {
-    "show": _add_show, "accept": _add_accept, "list": _add_list, "capture": add_capture, "web": _add_web,
+    "show": _add_show, "accept": _add_accept, "list": _add_list, "capture": add_capture,
     "kinit": _add_kinit, "klist": _add_klist, "kvno": _add_kvno, "kpasswd": _add_kpasswd, "kdestroy": _add_cache,
 }
 
@@ -221,7 +216,9 @@ def parser_of(version: str, name: Optional[str] = None) -> argparse.ArgumentPars
     parser.add_argument("--version", action="version", version="krb " + version)
     commands = parser.add_subparsers(dest="command", required=True, metavar="COMMAND", parser_class=Parser)
     for command, about in COMMANDS.items():
-        _ADD[command](commands.add_parser(command, help=about, description=about[0].upper() + about[1:] + "."))
+        added = commands.add_parser(command, help=about, description=about[0].upper() + about[1:] + ".")
+        if command in _ADD:  # `krb.web` has its own
+            _ADD[command](added)
     return parser
 
 
