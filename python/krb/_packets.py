@@ -8,7 +8,7 @@ import re
 import shutil
 import subprocess
 import threading
-from typing import IO, Any, Dict, Iterator, List, NamedTuple, Optional, Tuple
+from typing import IO, Dict, Iterator, List, NamedTuple, Optional, Tuple
 
 __all__ = ["KERBEROS_PORT", "PASSWORD_PORT", "Capture", "NoReader", "Packet"]
 
@@ -176,7 +176,7 @@ class Capture:
         is_path = self.octets is None and self.file is None
         command = [program, "-r", self.path if is_path else "-", "-n", "-l", "--disable-protocol", "kerberos", "-Y", _FILTER, "-T", "ek", "-z", "plen,tree"]
         command += [word for each in _PREFERENCES for word in ("-o", each)] + [word for each in _FIELDS for word in ("-e", each)]
-        source: Any = subprocess.PIPE if self.octets is not None else subprocess.DEVNULL if self.file is None else self.file
+        source: "IO[bytes] | int" = subprocess.PIPE if self.octets is not None else subprocess.DEVNULL if self.file is None else self.file
         try:
             process = subprocess.Popen(command, stdin=source, stdout=subprocess.PIPE, stderr=subprocess.PIPE)
         except OSError as error:
