@@ -7,6 +7,7 @@ import http.client
 import logging
 import os
 import socket
+import sys
 import time
 
 import krb
@@ -126,4 +127,8 @@ class Application:
         return [body]
 
 
+if __name__ == "__main__":
+    sys.exit("kdc_proxy: a server of WSGI runs it, as `gunicorn kdc_proxy:application`; the variable KDC_PROXY_CONFIG names its settings")
+if not os.environ.get("KDC_PROXY_CONFIG"):
+    raise RuntimeError("kdc_proxy: the variable KDC_PROXY_CONFIG names the file of its settings, and is not set")
 application = Application(os.environ["KDC_PROXY_CONFIG"])

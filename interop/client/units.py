@@ -6,8 +6,7 @@ import sys
 
 import krb
 from checks import expect, say
-from krb import __main__ as command
-from krb import _ccache, _configuration, _dns, _exchange, _kdc, _names, _times
+from krb import _arguments, _ccache, _configuration, _dns, _exchange, _kdc, _names, _times
 from refusals import rule_of
 from script import at_once
 
@@ -41,9 +40,9 @@ def try_names():
 
 def try_words():
     for text, seconds in (("10h", 36000), ("1d", 86400), ("1d2h3m4s", 93784), ("3h30m", 12600), ("90s", 90), ("36000", 36000), ("10:30", 37800), ("1:00:05", 3605)):
-        expect(command.duration(text) == seconds, "%s: %d" % (text, command.duration(text)))
+        expect(_arguments.duration(text) == seconds, "%s: %d" % (text, _arguments.duration(text)))
     for text in ("", "h", "10x", "1h1d", "-5", "1:2:3:4"):
-        expect(raises(Exception, lambda: command.duration(text)), "%a is a duration" % text)
+        expect(raises(Exception, lambda: _arguments.duration(text)), "%a is a duration" % text)
     both, tcp = ["tcp", "udp"], ["tcp"]
     rows = [("kdc", both, "kdc", 88), ("kdc:750", both, "kdc", 750), ("tcp/kdc:1", tcp, "kdc", 1), ("[::1]:88", both, "::1", 88), ("::1", both, "::1", 88)]
     for word, kinds, host, port in rows + [("udp/[::1]", ["udp"], "::1", 88), ("192.0.2.1:88", both, "192.0.2.1", 88)]:

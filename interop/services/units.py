@@ -15,6 +15,7 @@ import krb
 import krb.asgi
 import krb.wsgi
 from clients import MitClient
+from realm import PASSWORD
 
 
 def value():
@@ -220,8 +221,57 @@ def try_reload(realm):
         expect("whole_since" in str(refused) and " 123 s" in str(refused), "a cache that is too young: %s" % refused)
 
 
+def addressed(realm):
+    """A cache of tickets that are for the address 127.0.0.1 and those of this machine."""
+    with open(realm.path("krb5.conf"), encoding="ascii") as file:
+        text = file.read()
+    config = realm.write("addresses.conf", text.replace("[libdefaults]\n", "[libdefaults]\n noaddresses = false\n extra_addresses = 127.0.0.1\n", 1))
+    cache = realm.path("addressed")
+    environment = dict(realm.environment, KRB5_CONFIG=config, KRB5CCNAME="FILE:" + cache)
+    realm.run("kinit", "-a", "ann", text=PASSWORD + "\n", environment=environment)
+    expect("127.0.0.1" in realm.run("klist", "-a", "-n", environment=environment), "a ticket that is for 127.0.0.1")
+    return cache
+
+
+def try_addresses(realm, acceptor):
+    """A ticket that is for addresses, and those that a server tells."""
+    cache = addressed(realm)
+    required = krb.Acceptor(realm.keytab, replay_cache=krb.ReplayCache(None), server="HTTP", addresses_required=True)
+    rows = [
+        (acceptor, True, "127.0.0.1", True), (acceptor, True, "::ffff:127.0.0.1", True), (acceptor, True, "192.0.2.7", False), (acceptor, True, "2001:db8::1", False),
+        (acceptor, False, "192.0.2.7", True), (acceptor, True, None, True), (acceptor, True, "", True), (acceptor, True, "testclient", True),
+        (required, True, "127.0.0.1", True), (required, True, "192.0.2.7", False),
+    ]
+    for which, addresses, address, is_in in rows:
+        token = base64.b64encode(MitClient("HTTP", ["mutual"], cache=cache).begin()).decode("ascii")
+        lines = {name: Lines(name) for name in ("krb.wsgi", "krb.asgi")}
+        page = krb.wsgi.Negotiate(lambda environ, start_response: [start_response("200 OK", []) or b""], which, addresses=addresses)
+        statuses = []
+        page({"REQUEST_METHOD": "GET", "REMOTE_ADDR": address, "HTTP_AUTHORIZATION": "Negotiate " + token}, lambda status, fields: statuses.append(status[:3]))
+        what = "addresses=%s, required: %s, %r" % (addresses, which is required, address)
+        expect(statuses == ["200" if is_in else "401"], "WSGI, %s: %s" % (what, statuses))
+        expect(any("OTHER_ADDRESS" in line for line in lines["krb.wsgi"].take()) != is_in, "WSGI, %s: the log" % what)
+
+        async def sent_page(scope, receive, send):
+            await send({"type": "http.response.start", "status": 200, "headers": []})
+
+        async def send(message):
+            statuses.append(message.get("status"))
+
+        token = base64.b64encode(MitClient("HTTP", ["mutual"], cache=cache).begin()).decode("ascii")
+        scope = {"type": "http", "method": "GET", "client": None if address is None else (address, 1), "headers": [(b"authorization", b"Negotiate " + token.encode())]}
+        statuses.clear()
+        asyncio.run(krb.asgi.Negotiate(sent_page, which, addresses=addresses)(scope, None, send))
+        expect(statuses[0] == (200 if is_in else 401), "ASGI, %s: %s" % (what, statuses))
+        for each in lines.values():
+            each.log.removeHandler(each)
+    plain = MitClient("HTTP", ["mutual"]).begin()
+    expect(acceptor.accept(plain, address="192.0.2.7").client == "ann@HOME.TEST", "a ticket for no addresses, from anywhere")
+
+
 def try_units(realm):
     acceptor = krb.Acceptor(realm.keytab, replay_cache=krb.ReplayCache(None), server="HTTP")
     try_wsgi(acceptor)
     try_asgi(acceptor)
+    try_addresses(realm, acceptor)
     try_reload(realm)

@@ -1,68 +1,69 @@
-"""A command line: python -m krb kinit|klist|kvno|kpasswd|kdestroy, a client with options as those of MIT Kerberos have them; show and accept, for what octets hold and
-whether a service lets in the client of a token; capture and web."""
+"""The command `krb`, or python3 -m krb: show, accept, list, capture and web, for what octets hold and who is let in; kinit, klist, kvno, kpasswd and kdestroy, a
+client with options as those of MIT Kerberos have them. `krb._arguments` has the arguments."""
 
 import argparse
-import datetime
 import getpass
 import os
 import pwd
-import re
 import sys
 from typing import Callable, Dict, List, Optional
 
-from krb import __version__, _ccache, _look, capture, web
+from krb import __version__, _ccache
+from krb._arguments import parser_of
 from krb._configuration import Configuration
-from krb._context import unparsed
 from krb._facts import printable
-from krb._items import Registry, find_number, name_of
+from krb._items import find_number
+from krb._list import LETTERS, ended_since, etype_of, list_keytab, run_list, shown
+from krb._look import run_accept, run_show
 from krb._names import parsed
-from krb._parts import decode
+from krb._output import ended, named
 from krb._paths import Failed, cache_path, keytab_path
+from krb._plain import why_not
+from krb._trace import LOG, tracing
 from krb.client import Credentials, Settings, change_password, kinit, load, load_all
-
-# The letters of flags, as klist of MIT Kerberos has them.
-_LETTERS = {1: "F", 2: "f", 3: "P", 4: "p", 5: "D", 6: "d", 7: "i", 8: "R", 9: "I", 10: "A", 11: "H", 12: "T", 13: "O"}
-
-
-def duration(text: str) -> int:
-    """Seconds of "10h", "1d12h", "3h30m", "90s", "36000", "10:30" or "10:30:00"."""
-    found = re.fullmatch(r"(?:(\d+)d)?(?:(\d+)h)?(?:(\d+)m)?(?:(\d+)s?)?", text) if text else None
-    if found is None:
-        found = re.fullmatch(r"()(\d+):(\d{1,2})(?::(\d{1,2}))?", text)
-    if found is None:
-        raise argparse.ArgumentTypeError("no duration: %a" % text)
-    days, hours, minutes, seconds = (int(each or 0) for each in found.groups())
-    return ((days * 24 + hours) * 60 + minutes) * 60 + seconds
 
 
 def password_of(file: Optional[str], client: str) -> str:
     """The password: the first line of a file, or of standard input where that is "-" or no terminal; else it is asked for."""
     if file is not None and file != "-":
-        with open(file, encoding="utf-8") as opened:
+        with named(file), open(file, encoding="utf-8") as opened:
             line = opened.readline()
+    elif sys.stdin is None:
+        raise Failed("no password came: standard input is closed")
     elif file == "-" or not sys.stdin.isatty():
-        line = sys.stdin.readline()
+        with named("standard input"):
+            line = sys.stdin.readline()
     else:
-        return getpass.getpass("Password for %s: " % client)
+        return _asked("Password for %s: " % printable(client))
     if not line:
-        raise Failed("no password came")
+        raise Failed("no password came%s" % (": %s is empty" % file if file not in (None, "-") else ""))
     return line.rstrip("\r\n")
+
+
+def _asked(text: str) -> str:
+    try:
+        return getpass.getpass(text)
+    except EOFError:
+        raise Failed("no password came") from None
 
 
 def passwords_of(file: Optional[str], client: str) -> List[str]:
     """The old and the new password: the first two lines of a file, or of standard input; else they are asked for, the new one twice."""
-    if file is None and sys.stdin.isatty():
-        old, new = (getpass.getpass(text) for text in ("Password for %s: " % client, "Enter new password: "))
-        if getpass.getpass("Enter it again: ") != new:
+    if file is None and sys.stdin is not None and sys.stdin.isatty():
+        old, new = (_asked(text) for text in ("Password for %s: " % printable(client), "Enter new password: "))
+        if _asked("Enter it again: ") != new:
             raise Failed("the new passwords differ")
         return [old, new]
     if file is not None and file != "-":
-        with open(file, encoding="utf-8") as opened:
+        with named(file), open(file, encoding="utf-8") as opened:
             lines = opened.read().splitlines()
+    elif sys.stdin is None:
+        raise Failed("no two passwords came: standard input is closed")
     else:
-        lines = sys.stdin.read().splitlines()
+        with named("standard input"):
+            lines = sys.stdin.read().splitlines()
     if len(lines) < 2:
-        raise Failed("no two passwords came")
+        raise Failed("no two passwords came: the old one and the new one stand in a line each")
     return lines[:2]
 
 
@@ -82,60 +83,60 @@ def settings_of(options: argparse.Namespace) -> Settings:
 
 def tickets_of(path: str, settings: Settings) -> List[Credentials]:
     try:
-        return load_all(path, settings)
+        with named(path):
+            return load_all(path, settings)
     except FileNotFoundError:
         raise Failed("no file of tickets: %s" % path) from None
+
+
+def held_ticket(path: str, settings: Settings) -> Credentials:
+    """The ticket-granting ticket of a file."""
+    try:
+        with named(path):
+            return load(path, settings)
+    except FileNotFoundError:
+        raise Failed("no file of tickets: %s" % path) from None
+
+
+def save(ticket: Credentials, path: str) -> None:
+    """Writes the file of a ticket."""
+    LOG.info("Initializing FILE:%s with default princ %s", printable(path), printable(ticket.client))
+    with named(path):
+        ticket.save(path)
+    LOG.info("Storing %s -> %s in FILE:%s", printable(ticket.client), printable(ticket.server), printable(path))
 
 
 def run_kinit(options: argparse.Namespace) -> int:
     path, settings = cache_path(options.cache), settings_of(options)
     if options.renew or options.validate:
-        held = load(path, settings)
+        held = held_ticket(path, settings)
         if options.server is not None:
             server = parsed(options.server, held.entry.client.realm)
             held = next((each for each in load_all(path, settings) if each.entry.server.is_same(server)), held)
             if not held.entry.server.is_same(server):
                 raise Failed("no ticket for %s in %s" % (server.text, path))
-        (held.renew() if options.renew else held.validate()).save(path)
+        save(held.renew() if options.renew else held.validate(), path)
         return 0
     client = client_of(options)
     by_keytab = options.keytab is not None or options.use_keytab
     keytab = keytab_path(options.keytab) if by_keytab else None
     password = None if by_keytab else password_of(options.password_file, client)
+    keys: Optional[bytes] = None
+    if keytab is not None:
+        with named(keytab), open(keytab, "rb") as file:
+            keys = file.read()
     found = kinit(
-        client, password, keytab, kdc=settings.kdc, server=options.server, lifetime=options.lifetime, renewable=options.renewable, forwardable=options.forwardable,
+        client, password, keys, kdc=settings.kdc, server=options.server, lifetime=options.lifetime, renewable=options.renewable, forwardable=options.forwardable,
         proxiable=options.proxiable, start=options.start, timeout=options.timeout, configuration=options.config, dns=options.dns,
         canonicalize=options.canonicalize,
     )
-    found.save(path)
-    return 0
-
-
-def shown(time: Optional[datetime.datetime]) -> str:
-    return "" if time is None else time.astimezone().strftime("%Y-%m-%d %H:%M:%S")
-
-
-def etype_of(number: int) -> str:
-    return name_of(Registry.ENCRYPTION_TYPE, number) or "etype %d" % number
-
-
-def list_keytab(options: argparse.Namespace) -> int:
-    path = keytab_path(options.keytab)
-    with open(path, "rb") as file:
-        entries = decode(file.read(), "keytab")
-    print("Keytab name: FILE:%s\n" % path)
-    print("%4s  %-19s  %s" % ("KVNO", "Timestamp", "Principal"))
-    for each in entries:
-        if "keytype" in each:  # others are records that were removed
-            time = each["timestamp"].astimezone().strftime("%Y-%m-%d %H:%M:%S")
-            etype = " (%s)" % etype_of(each["keytype"]) if options.etypes else ""
-            print("%4d  %s  %s%s" % (each["vno"], time, printable(unparsed(tuple(each["components"]), each["realm"])), etype))
+    save(found, path)
     return 0
 
 
 def run_klist(options: argparse.Namespace) -> int:
     if options.use_keytab:
-        return list_keytab(options)
+        return list_keytab(keytab_path(options.keytab), options.etypes)
     path = cache_path(options.cache)
     if options.silent:
         try:
@@ -143,12 +144,13 @@ def run_klist(options: argparse.Namespace) -> int:
         except (OSError, ValueError, LookupError):
             return 1
     found = tickets_of(path, Settings())
-    print("Ticket cache: FILE:%s" % path)
+    print("Ticket cache: FILE:%s" % printable(path))
     print("Default principal: %s\n" % printable(_ccache.read(path).client.text))
     print("%-19s  %-19s  %s" % ("Valid starting", "Expires", "Service principal"))
     for each in found:
-        print("%-19s  %-19s  %s" % (shown(each.start_time), shown(each.end_time), printable(each.server)))
-        letters = "".join(letter for number, letter in _LETTERS.items() if each.has_flag(number))
+        over = ended_since(each.end_time, each.settings.clock())
+        print("%-19s  %-19s  %s%s" % (shown(each.start_time), shown(each.end_time), printable(each.server), "  (%s)" % over if over else ""))
+        letters = "".join(letter for number, letter in LETTERS.items() if each.has_flag(number))
         words = ["renew until " + shown(each.renew_till)] if each.renew_till else []
         words += ["Flags: " + letters] if options.flags else []
         if words:
@@ -161,7 +163,7 @@ def run_klist(options: argparse.Namespace) -> int:
 
 def run_kvno(options: argparse.Namespace) -> int:
     path, settings = cache_path(options.cache), settings_of(options)
-    held = load(path, settings)
+    held = held_ticket(path, settings)
     failed = False
     for word in options.services:
         server = parsed(word, held.entry.client.realm)
@@ -171,12 +173,14 @@ def run_kvno(options: argparse.Namespace) -> int:
             try:
                 got = held.ticket_for(server.text, realms=options.realm)
             except (OSError, ValueError) as error:
-                print("kvno: %s: %s" % (printable(server.text), printable(" ".join(str(error).split()))), file=sys.stderr)
+                print("kvno: %s: %s" % (printable(server.text), why_not(error)), file=sys.stderr)
                 failed = True
                 continue
             found = got.entry
             others = tuple(each for each in cache.entries if each.is_setting or not each.server.is_same(server))
-            _ccache.write(path, cache._replace(entries=others + (found,)))
+            with named(path):
+                _ccache.write(path, cache._replace(entries=others + (found,)))
+            LOG.info("Storing %s -> %s in FILE:%s", printable(found.client.text), printable(found.server.text), printable(path))
         print("%s: kvno = %d" % (printable(server.text), find_number(found.ticket, "Ticket", "enc-part.kvno")))
     return 1 if failed else 0
 
@@ -198,86 +202,37 @@ def run_kdestroy(options: argparse.Namespace) -> int:
     return 0
 
 
-def add_ways(parser: argparse.ArgumentParser) -> None:
-    """How KDCs are reached."""
-    words = "HOST[:PORT], with tcp/ or udp/ before it over this alone, or https://HOST[:PORT]/PATH of a KDC proxy; may be given more than once"
-    parser.add_argument("--kdc", action="append", metavar="KDC", help=words)
-    parser.add_argument("--config", metavar="FILE", help="krb5.conf; else $KRB5_CONFIG or /etc/krb5.conf")
-    parser.add_argument("--dns", action="store_true", help="ask DNS for the KDCs of a realm of which the file has none")
-    parser.add_argument("--timeout", type=float, default=10.0, metavar="SECONDS", help="how long one KDC has for a reply (10)")
+def run_capture(options: argparse.Namespace) -> int:
+    from krb._capture_command import run_capture as run  # most commands need none of it
 
-
-def parser_of() -> argparse.ArgumentParser:
-    about = "A client of Kerberos, and what octets of Kerberos hold. What is sent, which reply is taken, who is let in and what is shown a proved library decides."
-    parser = argparse.ArgumentParser(prog="krb" if os.path.basename(sys.argv[0]) == "krb" else "python -m krb", description=about)
-    parser.add_argument("--version", action="version", version="krb %s" % __version__)
-    commands = parser.add_subparsers(dest="command", required=True, metavar="COMMAND")
-
-    def command(name: str, about: str, has_cache: bool = True) -> argparse.ArgumentParser:
-        added = commands.add_parser(name, help=about, description=about[0].upper() + about[1:] + ".")
-        if not has_cache:
-            return added
-        added.add_argument("-c", dest="cache", metavar="CACHE", help="the file of tickets; else $KRB5CCNAME or /tmp/krb5cc_UID")
-        return added
-
-    first = command("kinit", "get a first ticket, by a password or a keytab")
-    first.add_argument("-k", dest="use_keytab", action="store_true", help="by the keytab, and no password")
-    first.add_argument("-t", dest="keytab", metavar="KEYTAB", help="the keytab; else $KRB5_KTNAME or /etc/krb5.keytab")
-    first.add_argument("-l", dest="lifetime", type=duration, metavar="LIFETIME", help="as 10h, 1d or 3h30m; else as long as the KDC allows")
-    first.add_argument("-r", dest="renewable", type=duration, metavar="LIFETIME", help="how long it may be renewed")
-    first.add_argument("-s", dest="start", type=duration, metavar="DURATION", help="from when on it is to be valid: a postdated ticket")
-    first.add_argument("-f", dest="forwardable", action="store_true", help="a forwardable ticket")
-    first.add_argument("-p", dest="proxiable", action="store_true", help="a proxiable ticket")
-    first.add_argument("-C", dest="canonicalize", action="store_true", help="the KDC may answer with another name of the client (RFC 6806)")
-    first.add_argument("-S", dest="server", metavar="SERVICE", help="for another service than the ticket-granting one")
-    first.add_argument("-R", dest="renew", action="store_true", help="renew the ticket of the file")
-    first.add_argument("-v", dest="validate", action="store_true", help="validate the postdated ticket of the file")
-    first.add_argument("--password-file", metavar="FILE", help="its first line is the password; - is standard input")
-    add_ways(first)
-    first.add_argument("principal", nargs="?", help="as carol@HOME.TEST; else the user's name in the default realm")
-    listed = command("klist", "list the tickets of a file")
-    listed.add_argument("-k", dest="use_keytab", action="store_true", help="the keys of a keytab in place of the tickets of a file")
-    listed.add_argument("-t", dest="keytab", metavar="KEYTAB", help="that keytab; else $KRB5_KTNAME or /etc/krb5.keytab")
-    listed.add_argument("-e", dest="etypes", action="store_true", help="with encryption types")
-    listed.add_argument("-f", dest="flags", action="store_true", help="with flags")
-    listed.add_argument("-s", dest="silent", action="store_true", help="write nothing; the status is 0 where there is a ticket-granting ticket that has not ended")
-    further = command("kvno", "get tickets for services by the ticket of the file, and tell the versions of their keys")
-    add_ways(further)
-    further.add_argument("--realm", action="append", default=[], metavar="REALM", help="another realm to which a KDC may refer; may be given more than once")
-    further.add_argument("services", nargs="+", metavar="SERVICE")
-    changed = command("kpasswd", "change a password", has_cache=False)
-    words = "the server that changes passwords, as --kdc; else kpasswd_server of krb5.conf, or the hosts of its KDCs"
-    changed.add_argument("--server", action="append", metavar="SERVER", help=words)
-    changed.add_argument("--password-file", metavar="FILE", help="its first two lines are the old and the new password; - is standard input")
-    add_ways(changed)
-    changed.add_argument("principal", nargs="?", help="as carol@HOME.TEST; else the user's name in the default realm")
-    command("kdestroy", "remove the file of tickets")
-    _look.add_show(command("show", "show what octets hold: of messages, tokens, PACs, keytabs and caches", has_cache=False))
-    _look.add_accept(command("accept", "say whether a service lets in the client that sent a token, and else why not", has_cache=False))
-    commands.add_parser("web", add_help=False, help="serve a page on 127.0.0.1 that shows octets in the browser (python -m krb web --help)")
-    commands.add_parser("capture", add_help=False, help="tell the messages in a capture of a network (python -m krb capture --help)")
-    return parser
+    return run(options)
 
 
 COMMANDS: Dict[str, Callable[[argparse.Namespace], int]] = {
+    "show": run_show, "accept": run_accept, "list": run_list, "capture": run_capture,
     "kinit": run_kinit, "klist": run_klist, "kvno": run_kvno, "kpasswd": run_kpasswd, "kdestroy": run_kdestroy,
-    "show": _look.run_show, "accept": _look.run_accept,
 }
 
 
-def main(words: Optional[List[str]] = None) -> int:
-    words = sys.argv[1:] if words is None else words
-    if words[:1] in (["capture"], ["web"]):
-        return (capture if words[0] == "capture" else web).main(words[1:])
-    options = parser_of().parse_args(words)
+def run(options: argparse.Namespace) -> int:
+    """The status of a command; what is refused is told in a line."""
     try:
-        return COMMANDS[options.command](options)
+        with tracing(getattr(options, "trace", False)):
+            return COMMANDS[options.command](options)
     except (Failed, OSError, ValueError, LookupError) as error:
-        text = error.strerror + ": " + str(error.filename) if isinstance(error, OSError) and error.strerror and error.filename else str(error)
-        print("%s: %s" % (options.command, printable(" ".join(text.split()))), file=sys.stderr)
+        by_password = not (getattr(options, "use_keytab", False) or getattr(options, "keytab", None))
+        print("%s: %s" % (options.command, why_not(error, by_password)), file=sys.stderr)
         return 2 if options.command == "accept" else 1
-    except KeyboardInterrupt:
-        return 1
+
+
+def main(given: Optional[List[str]] = None) -> int:
+    words = sys.argv[1:] if given is None else given
+    if words[:1] == ["web"]:
+        from krb import web  # it has its own arguments, and most commands need none of it
+
+        return ended(lambda: web.main(words[1:]), "web")
+    failed = 2 if words[:1] == ["accept"] else 1
+    return ended(lambda: run(parser_of(__version__).parse_args(words)), words[0] if words[:1] and words[0] in COMMANDS else "krb", failed)
 
 
 if __name__ == "__main__":

@@ -2,6 +2,7 @@
 
 import base64
 import hashlib
+import ipaddress
 import logging
 import os
 import ssl
@@ -37,23 +38,34 @@ def _challenge(token: Optional[bytes]) -> str:
     return ("Negotiate " + base64.b64encode(token or b"").decode("ascii")).strip()
 
 
+def _is_address(address: Optional[str]) -> bool:
+    """Whether it is one of IPv4 or IPv6, as a server tells that of a client; of a socket in a file there is none."""
+    try:
+        ipaddress.ip_address(address or "")
+    except ValueError:
+        return False
+    return True
+
+
 class Gate:
     """Decides about requests, over a `krb.Acceptor`, whose keytab it reads anew where the file changed.
 
     - `bindings`: the service's channel bindings, as `bindings_of` tells them; None: none are checked. `asks`: whether MICs are wanted over the list of
       mechanisms of each client that speaks SPNEGO (`krb.Negotiator`).
+    - `addresses`: whether a ticket that is for addresses has to come from one of them. False where the address is that of a proxy.
     - `log`: gets a line for each client that is not let in, of level WARNING, which begins with the client's address. That a request came without a token, as
       the first one of most clients does, is of level DEBUG."""
 
     def __init__(
-        self, acceptor: Acceptor, bindings: Union[Octets, ChannelBindings, None], asks: Optional[bool], log: logging.Logger
+        self, acceptor: Acceptor, bindings: Union[Octets, ChannelBindings, None], asks: Optional[bool], addresses: bool, log: logging.Logger
     ) -> None:
-        self.acceptor, self.bindings, self.asks = acceptor, bindings, asks
+        self.acceptor, self.bindings, self.asks, self.addresses = acceptor, bindings, asks, addresses
         self._log, self._told = log, ""
 
-    def begun(self) -> Negotiator:
-        """A negotiation with a client, of Kerberos alone."""
-        return Negotiator(NegotiationRole.ACCEPTOR, [KerberosMechanism(self.acceptor, self.bindings)], self.asks)
+    def begun(self, address: Optional[str] = None) -> Negotiator:
+        """A negotiation with a client at this address, of Kerberos alone."""
+        known = address if self.addresses and _is_address(address) else None
+        return Negotiator(NegotiationRole.ACCEPTOR, [KerberosMechanism(self.acceptor, self.bindings, known)], self.asks)
 
     def judge(self, authorization: Optional[str], address: Optional[str], connection: Optional[Dict[str, Any]]) -> Answer:
         """What a request with this value of Authorization comes to, if it has one. `connection` is a dict of its connection's, which keeps a negotiation of
@@ -69,7 +81,7 @@ class Gate:
         kept = {} if connection is None else connection
         try:
             octets = base64.b64decode(text.strip(), validate=True)
-            negotiator = kept.pop("negotiator", None) or self.begun()
+            negotiator = kept.pop("negotiator", None) or self.begun(address)
             token, state = negotiator.step(octets)
         except NotNegotiated as refused:
             self._say(logging.WARNING, address, refused)

@@ -168,6 +168,11 @@ class Exchange:
         """By how many seconds the KDC's time is ahead, as an error of its own, or one before, told; else None."""
         return int(self._state.offset) if self._state.has_offset else None
 
+    @property
+    def etype(self) -> Optional[int]:
+        """The encryption type of the client's key in an exchange for a first ticket, once one is chosen."""
+        return int(self._state.etype) or None
+
     def begin(self) -> Answer:
         """The first request. NotGranted, as OTHER_MESSAGE once it was made; Refused: INVALID, NUMBER, KEYTAB, MEMORY."""
         return self._stepped(b"", False)

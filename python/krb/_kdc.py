@@ -6,7 +6,7 @@ import socket
 import time
 from typing import Any, Callable, Dict, Generator, Iterator, List, Mapping, NamedTuple, Optional, Protocol, Sequence, Tuple, TypeVar, Union
 
-from krb import _dns, proxy
+from krb import _dns, _trace, proxy
 from krb._configuration import Configuration
 from krb._exchange import ClientRule, Follows, NotGranted
 from krb._library import Refused, Status
@@ -73,12 +73,19 @@ def left(end: float) -> float:
     return seconds
 
 
+def _shown(kind: str, place: Any) -> str:
+    """An address of a socket, as "stream 127.0.0.1:88"."""
+    host, port = place[:2]
+    return "%s %s:%d" % (kind, "[%s]" % host if ":" in host else host, port)
+
+
 def _connected(link: socket.socket, address: Any, end: float) -> None:
     link.settimeout(left(end))
     link.connect(address)
 
 
 def _places(address: Address, kind: socket.SocketKind) -> Iterator[Tuple[socket.AddressFamily, Any]]:
+    _trace.say("Resolving hostname %s", address.host)
     for family, _, _, _, place in socket.getaddrinfo(address.host, address.port, type=kind):
         yield family, place
 
@@ -86,7 +93,10 @@ def _places(address: Address, kind: socket.SocketKind) -> Iterator[Tuple[socket.
 def _stream(family: int, place: Any, request: bytes, end: float) -> Replies:
     """The reply over TCP, behind its length in four octets (RFC 4120, 7.2.2)."""
     with socket.socket(family, socket.SOCK_STREAM) as link:
+        where = _shown("stream", place)
+        _trace.say("Initiating TCP connection to %s", where)
         _connected(link, place, end)
+        _trace.say("Sending TCP request to %s", where)
         link.settimeout(left(end))
         link.sendall(len(request).to_bytes(4, "big") + request)
         reply = bytearray()
@@ -101,6 +111,7 @@ def _stream(family: int, place: Any, request: bytes, end: float) -> Replies:
             if refused.status != Status.PROXY_TOO_LARGE:
                 raise
             raise ConnectionError("its reply has more than %d octets, or than its length says" % LIMIT) from None
+        _trace.say("Received answer (%d bytes) from %s", len(reply) - 4, where)
         yield bytes(reply[4:])
 
 
@@ -108,8 +119,10 @@ def _datagrams(family: int, place: Any, request: bytes, end: float) -> Replies:
     """The replies over UDP (RFC 4120, 7.2.1) that come to a socket of this request's own; it is sent again until one is taken."""
     with socket.socket(family, socket.SOCK_DGRAM) as link:
         _connected(link, place, end)
-        wait = _FIRST_WAIT
+        wait, where, which = _FIRST_WAIT, _shown("dgram", place), "initial"
         while True:
+            _trace.say("Sending %s UDP request to %s", which, where)
+            which = "retry"
             link.send(request)
             again = time.monotonic() + wait
             while time.monotonic() < again:
@@ -118,6 +131,7 @@ def _datagrams(family: int, place: Any, request: bytes, end: float) -> Replies:
                     reply = link.recv(65535)
                 except socket.timeout:
                     continue
+                _trace.say("Received answer (%d bytes) from %s", len(reply), where)
                 yield reply
             left(end)
             wait *= 2
@@ -169,7 +183,8 @@ class Kdcs:
             try:
                 self._found[realm] = [address for word in self._words(realm) for address in addresses(word, self._port)]
             except OSError as error:
-                raise KdcUnreachable("no KDC of %s is found: %s" % (ascii(realm)[1:-1], error)) from error
+                why = "%s: %s" % (error.filename, error.strerror) if error.filename and error.strerror else str(error)
+                raise KdcUnreachable("no KDC of %s is found: %s" % (ascii(realm)[1:-1], why)) from error
         if not self._found[realm]:
             raise KdcUnreachable("no KDC of %s is known" % ascii(realm)[1:-1])
         return sorted(self._found[realm], key=lambda each: each != self._last)
@@ -179,6 +194,7 @@ class Kdcs:
         if address.kind == "https":
             from krb._https import posted  # most clients need no TLS
 
+            _trace.say("Sending HTTPS request to %s", address)
             yield posted(address, realm, request, self.configuration().anchors(realm), time.monotonic() + self._seconds)
             return
         kind, ask = (socket.SOCK_DGRAM, _datagrams) if address.kind == "udp" else (socket.SOCK_STREAM, _stream)
@@ -204,6 +220,7 @@ class Kdcs:
 
         KdcUnreachable: none does. What `take` raises is raised on, but of a KDC that reports that it has no service, and over UDP that its reply is too big for that: the
         next one is tried then, and the same one over TCP."""
+        _trace.say("Sending request (%d bytes) to %s", len(request), ascii(realm)[1:-1])
         waiting, failures, last = self.addresses(realm), [], None
         while waiting:
             address = waiting.pop(0)
@@ -221,6 +238,7 @@ class Kdcs:
                 last = refused
                 failures.append("%s: %s" % (address, refused))
             except OSError as error:
+                _trace.say("Request to %s failed: %s", address, error.strerror or error)
                 failures.append("%s: %s" % (address, error.strerror or error))
         if last is not None and len(failures) == 1:
             raise last

@@ -1,7 +1,7 @@
-"""What `python -m krb show` and `accept` do: what octets hold, and whether a service lets in the client that sent a token."""
+"""What `krb show` and `krb accept` do: what octets hold, and whether a service lets in the client that sent a token."""
 
 import argparse
-import datetime
+import difflib
 import sys
 import time
 from typing import List, NamedTuple, Optional
@@ -12,81 +12,64 @@ from krb._facts import printable
 from krb._forms import given_octets
 from krb._library import Refused, Status
 from krb._mechanism import KerberosMechanism
+from krb._output import input_octets, named
 from krb._paths import keytab_path
 from krb._rules import Rule
 from krb._shown import show
 from krb.accept import Acceptor, NotAccepted
 from krb.negotiate import NegotiationRole, Negotiator, NotNegotiated
 
-__all__ = ["Verdict", "add_accept", "add_show", "run_accept", "run_show", "verdicts_of"]
+__all__ = ["Verdict", "run_accept", "run_show", "verdicts_of"]
 
 _TIME = "%Y-%m-%dT%H:%M:%SZ"
 
 
 def octets_of(path: Optional[str]) -> bytes:
     """The octets that a file, or standard input, stands for: PEM, a header of HTTP, a dump, hexadecimal, base64, or themselves. OSError; ValueError."""
-    if path is None:
-        return given_octets(sys.stdin.buffer.read()).octets
-    with open(path, "rb") as file:
-        return given_octets(file.read()).octets
+    octets = input_octets(path)
+    with named("standard input" if path in (None, "-") else path):
+        found = given_octets(octets).octets
+        if not found:
+            raise ValueError("the input is empty")
+        return found
 
 
 def keys_of(options: argparse.Namespace) -> bytes:
     """One keytab of all that the options name. OSError; ValueError of what is none."""
     keytabs, keys = [], ""
     for path in options.keytab:
-        with open(path, "rb") as keytab:
+        with named("--keytab " + path), open(path, "rb") as keytab:
             keytabs.append(keytab.read())
+            _pages.keys_of(keytabs[-1:], "")
     for path in options.key_file:
-        with open(path, encoding="ascii", errors="replace") as file:
-            keys += " " + file.read()
+        with named("--key-file " + path), open(path, encoding="ascii", errors="replace") as file:
+            text = file.read()
+            _pages.keys_of([], text)
+            keys += " " + text
     return _pages.keys_of(keytabs, keys)
 
 
-def add_show(parser: argparse.ArgumentParser) -> None:
-    parser.add_argument("--as", dest="kind", metavar="KIND", help="as this type or format, as AS-REQ, token, PAC, keytab; else as the octets begin")
-    parser.add_argument("--json", action="store_true", help="a line of JSON")
-    parser.add_argument("--places", action="store_true", help="with the place of each value")
-    parser.add_argument("--keytab", action="append", default=[], metavar="FILE", help="open what is encrypted with its keys; may be given more than once")
-    parser.add_argument("--key-file", action="append", default=[], metavar="FILE", help="the same with the keys ETYPE:HEX of this file")
-    parser.add_argument("--show-keys", action="store_true", help="the octets of keys and passwords, and not the word hidden")
-    parser.add_argument("file", nargs="?", metavar="FILE", help="else standard input")
+def _near(kind: str) -> str:
+    """What kind may be meant."""
+    found = difflib.get_close_matches(kind.lower(), [each.lower() for each in _pages.KINDS], 1)
+    return "; did you mean %s?" % next(each for each in _pages.KINDS if each.lower() == found[0]) if found else ""
 
 
 def run_show(options: argparse.Namespace) -> int:
-    octets, keytab = octets_of(options.file), keys_of(options)
-    if not octets:
-        raise ValueError("the input is empty")
+    keytab = keys_of(options)
+    octets = octets_of(options.file)
+    where = options.file if options.file not in (None, "-") else "standard input"
     try:
         told = show(octets, options.kind, keytab, options.json, options.show_keys, options.places)
     except Refused as refused:
-        if refused.status != Status.NUMBER:
-            raise
-        raise ValueError(
-            "the octets begin as no kind that is known; --as names one" if options.kind is None else "--as: no type or format is called %s" % options.kind
-        ) from None
+        if refused.status == Status.NUMBER and options.kind is not None:
+            raise ValueError("--as: no type or format is called %s%s" % (options.kind, _near(options.kind))) from None
+        if refused.status == Status.NUMBER:
+            raise ValueError("%s: the octets begin as no kind that is known; --as names one" % where) from None
+        _, _, place = _pages._error_of(octets, options.kind, refused)
+        raise ValueError("%s: %s%s" % (where, refused, "" if place is None else ", at octet %d" % place)) from None
     sys.stdout.write(told)
     return 0
-
-
-def add_accept(parser: argparse.ArgumentParser) -> None:
-    parser.add_argument("--keytab", metavar="FILE", help="the service's keytab; else $KRB5_KTNAME or /etc/krb5.keytab")
-    parser.add_argument("--server", action="append", metavar="NAME", help="for this server alone, as HTTP/www.home.test; may be given more than once")
-    parser.add_argument("--realm", action="append", metavar="REALM", help="clients of this realm alone; may be given more than once")
-    parser.add_argument("--time", type=moment, metavar="T", help="when the token came: seconds since 1970, or as 2026-01-02T03:04:05Z; else now")
-    parser.add_argument("--skew", type=int, default=300, metavar="S", help="by how many seconds clocks may differ (300)")
-    parser.add_argument("--bare", dest="bare_request", action="store_true", help="an AP-REQ with no frame around it too")
-    parser.add_argument("--other-checksum", action="store_true", help="an authenticator with another checksum than that of the GSS-API too")
-    parser.add_argument("--pac", choices=("required", "ignored"), default="checked", help="else a PAC is checked where there is one")
-    parser.add_argument("file", nargs="?", metavar="FILE", help="the token, as it stands in a header of HTTP or as octets; else standard input")
-
-
-def moment(text: str) -> float:
-    """The seconds since 1970 of a time."""
-    try:
-        return float(int(text)) if text.isdecimal() else datetime.datetime.strptime(text, _TIME).replace(tzinfo=datetime.timezone.utc).timestamp()
-    except ValueError:
-        raise argparse.ArgumentTypeError("no time: %a" % text) from None
 
 
 def is_offer(octets: bytes) -> bool:
@@ -151,8 +134,13 @@ def verdicts_of(keytab: bytes, octets: bytes) -> List[Verdict]:
 
 def run_accept(options: argparse.Namespace) -> int:
     """Status 0 where the client is let in, 1 where it is not, and 2 where nothing is decided."""
+    path = keytab_path(options.keytab)
+    with named(path):
+        with open(path, "rb") as file:
+            keytab = file.read()
+        Acceptor(keytab, replay_cache=False)
     acceptor = Acceptor(
-        keytab_path(options.keytab),
+        keytab,
         skew=options.skew,
         replay_cache=False,
         bare_request=options.bare_request,
@@ -160,7 +148,7 @@ def run_accept(options: argparse.Namespace) -> int:
         pac=options.pac,
         server=options.server,
         client_realm=options.realm,
-        clock=time.time if options.time is None else lambda: options.time,
+        clock=time.time if options.time is None else lambda: float(options.time),
     )
     verdict = verdict_of(acceptor, octets_of(options.file))
     print(verdict.text)

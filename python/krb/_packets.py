@@ -4,6 +4,7 @@ tshark reads the file, its links and addresses, puts fragments of IP together, a
 
 import datetime
 import json
+import re
 import shutil
 import subprocess
 import threading
@@ -33,6 +34,7 @@ _FILTER = "(%s) && !icmp && !icmpv6" % " || ".join(_WANTED)
 _TRUE = "tcp.desegment_tcp_streams tcp.reassemble_out_of_order ip.defragment ipv6.defragment http.desegment_headers"
 _PREFERENCES = [each + ":TRUE" for each in _TRUE.split()]
 _FINISH, _SYNCHRONIZE, _RESET = 1, 2, 4  # flags of a segment (RFC 9293, 3.1)
+_COUNT = re.compile(rb"Packet Lengths +(\d+)", re.IGNORECASE)  # the first row of tshark's table of lengths, which counts all packets
 _MOST_SAID = 4096  # octets of what tshark says beside the packets
 _EPOCH = datetime.datetime(1970, 1, 1, tzinfo=datetime.timezone.utc)
 
@@ -154,23 +156,27 @@ def _feed(pipe: IO[bytes], octets: bytes) -> None:
 
 
 class Capture:
-    """A file of packets, or its `octets`, of which nothing is written to disk. `trouble` says, behind the last packet, why there may be more than were
-    read: a line of tshark, or None. With `seconds` tshark is stopped when they are over, no packet comes from then on, `is_stopped` is True, and `trouble` says
-    so."""
+    """A file of packets by its path, or its `octets`, of which nothing is written to disk, or an open `file`, which may be a pipe. `trouble` says, behind the
+    last packet, why there may be more than were read: a line of tshark, or None. With `seconds` tshark is stopped when they are over, no packet comes from then
+    on, `is_stopped` is True, and `trouble` says so. `count`: how many packets there are, once all were read; else None."""
 
-    def __init__(self, path: str = "-", octets: Optional[bytes] = None, seconds: Optional[float] = None) -> None:
-        self.path, self.octets, self.seconds = path, octets, seconds
+    def __init__(
+        self, path: str = "-", octets: Optional[bytes] = None, seconds: Optional[float] = None, file: Optional[IO[bytes]] = None
+    ) -> None:
+        self.path, self.octets, self.seconds, self.file = path, octets, seconds, file
         self.trouble: Optional[str] = None
         self.is_stopped = False
+        self.count: Optional[int] = None
 
     def packets(self) -> Iterator[Packet]:
         """The packets that may hold messages, in their order. NoReader: tshark is not there."""
         program = shutil.which(READER)
         if program is None:
             raise NoReader("%s is not there, which reads captures: install %s" % (READER, PACKAGE))
-        command = [program, "-r", self.path if self.octets is None else "-", "-n", "--disable-protocol", "kerberos", "-Y", _FILTER, "-T", "ek"]
+        is_path = self.octets is None and self.file is None
+        command = [program, "-r", self.path if is_path else "-", "-n", "-l", "--disable-protocol", "kerberos", "-Y", _FILTER, "-T", "ek", "-z", "plen,tree"]
         command += [word for each in _PREFERENCES for word in ("-o", each)] + [word for each in _FIELDS for word in ("-e", each)]
-        source = subprocess.DEVNULL if self.octets is None else subprocess.PIPE
+        source: "IO[bytes] | int" = subprocess.PIPE if self.octets is not None else subprocess.DEVNULL if self.file is None else self.file
         try:
             process = subprocess.Popen(command, stdin=source, stdout=subprocess.PIPE, stderr=subprocess.PIPE)
         except OSError as error:
@@ -199,6 +205,10 @@ class Capture:
                         strange += 1
                         continue
                     yield packet
+                    continue
+                counted = _COUNT.match(line)
+                if counted:
+                    self.count = int(counted[1])
             status = process.wait()
         finally:
             process.kill()  # nothing, where it has ended

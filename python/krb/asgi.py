@@ -52,13 +52,16 @@ class Negotiate(Gate):
 
     - `acceptor`: a `krb.Acceptor`. Its keytab, where it is a file, is read anew once the file changed; one that cannot be read leaves the keys as they were.
     - `bindings`: the service's channel bindings, as `bindings_of` tells them; None: none are checked.
+    - `addresses`: whether a ticket that is for addresses has to come from one of them, by scope["client"]. False behind a proxy, whose address that is.
 
     ASGI tells nothing of connections, on which a negotiation of more than one token goes on. So the first token has to be the last one: a client that lists
     another mechanism before Kerberos, and begins with its token, is refused, which the log says; so is DCE style. What a replay cache raises goes to the
     server."""
 
-    def __init__(self, app: _Application, acceptor: Acceptor, bindings: Union[Octets, ChannelBindings, None] = None) -> None:
-        super().__init__(acceptor, bindings, False, _log)
+    def __init__(
+        self, app: _Application, acceptor: Acceptor, bindings: Union[Octets, ChannelBindings, None] = None, addresses: bool = True
+    ) -> None:
+        super().__init__(acceptor, bindings, False, addresses, _log)
         self.app = app
 
     async def __call__(self, scope: _Message, receive: _Receive, send: _Send) -> None:

@@ -7,9 +7,10 @@ import os
 import time
 from typing import Callable, Dict, FrozenSet, List, NamedTuple, Optional, Sequence, Tuple, Union
 
-from krb import _ccache
+from krb import _ccache, _trace
 from krb._ccache import Cache, Entry
 from krb._context import EncryptionKey, time_of
+from krb._facts import printable
 from krb._exchange import Answer, ClientRule, Exchange, Follows, Limits, NotGranted, Wanted
 from krb._initiator import Initiator, InitiatorContext, KerberosInitiator
 from krb._items import Registry, Secret, _flags
@@ -109,8 +110,11 @@ def _run(exchange: Exchange, kdcs: Kdcs, realm: str, may_refer: Callable[[bytes]
 
     def take(message: bytes, is_datagram: bool) -> Answer:
         try:
-            return exchange.step(message, is_datagram)
+            answer = exchange.step(message, is_datagram)
+            _trace.told_reply(message, exchange.etype)
+            return answer
         except NotGranted as refused:
+            _trace.told_reply(message, exchange.etype)
             if exchange.wanted.canonicalize and refused.rule in _RENAMES:
                 exchange.wanted = _renamed_to(exchange.wanted, message)
                 return exchange.renamed(message)
@@ -122,8 +126,12 @@ def _run(exchange: Exchange, kdcs: Kdcs, realm: str, may_refer: Callable[[bytes]
 
     answer = exchange.begin()
     while answer.follows == Follows.SENDS:
+        _trace.told_request(answer.octets)
         answer = kdcs.answer(realm, answer.octets, take)
-    return _granted(exchange.wanted.client, answer.ticket, answer.part)
+    found = _granted(exchange.wanted.client, answer.ticket, answer.part)
+    names = printable(found.client.text), printable(found.server.text)
+    _trace.say("Decrypted reply: %s -> %s with a session key of %s", *names, _trace.etype(found.session_key.etype))
+    return found
 
 
 def _by_its_time(
@@ -186,6 +194,7 @@ class Credentials:
             return Exchange(wanted, settings.limits(), settings.clock, ticket=entry.ticket, session_key=entry.session_key, offset=offset)
 
         realm = entry.server.granting_realm or entry.server.realm
+        _trace.say("Requesting tickets for %s of the realm %s", printable(server.text), printable(realm))
         found, offset = _by_its_time(begin, self.offset, (lifetime, renewable), lambda exchange: _run(exchange, self._kdcs, realm, may_refer))
         return Credentials(found, settings, offset, self._kdcs)
 
@@ -296,6 +305,7 @@ def kinit(
         wanted = Wanted(name, asked, tuple(etypes), tuple(options), tuple(flags), begins, till, _until(renewable, now), canonicalize)
         return Exchange(wanted, settings.limits(), clock, secret, keys, offset=offset)
 
+    _trace.say("Getting initial credentials for %s", printable(name.text))
     found, known = _by_its_time(begin, None, (start, lifetime, renewable), lambda exchange: _run(exchange, kdcs, name.realm))
     return Credentials(found, settings, known, kdcs)
 

@@ -29,6 +29,7 @@ class Negotiate(Gate):
     - `acceptor`: a `krb.Acceptor`. Its keytab, where it is a file, is read anew once the file changed; one that cannot be read leaves the keys as they were.
     - `bindings`: the service's channel bindings, as `bindings_of` tells them; None: none are checked.
     - `asks`: whether MICs are wanted over the list of mechanisms of each client that speaks SPNEGO.
+    - `addresses`: whether a ticket that is for addresses has to come from one of them, by REMOTE_ADDR. False behind a proxy, whose address that is.
 
     A negotiation of more than one token goes on from request to request of one connection: the server puts a dict of the connection's into
     environ["negotiate.connection"], and without one the negotiation has to end with the first token. What a replay cache raises goes to the server."""
@@ -39,8 +40,9 @@ class Negotiate(Gate):
         acceptor: Acceptor,
         bindings: Union[Octets, ChannelBindings, None] = None,
         asks: Optional[bool] = False,
+        addresses: bool = True,
     ) -> None:
-        super().__init__(acceptor, bindings, asks, _log)
+        super().__init__(acceptor, bindings, asks, addresses, _log)
         self.application = application
 
     def __call__(self, environ: Dict[str, Any], start_response: Callable[..., Any]) -> Iterable[bytes]:
