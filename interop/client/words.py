@@ -211,6 +211,20 @@ def try_trace(realm, command):
     expect(command.run("kinit", USER, text=PASSWORD, KRB5_TRACE="/dev/full", **environment) == (0, "", ""), "a trace on a full device")
 
 
+def try_plain(realm, command):
+    """What a KDC's errors and broken rules are called; users f.. have no pre-authentication, so that a wrong password is found out by the reply."""
+    rows = [
+        (("kinit", "f17"), "another\n", "kinit: the password is wrong: its key does not open the KDC's reply (OPENING)\n"),
+        (("kinit", "nobody"), "x\n", "kinit: the KDC reports KDC_ERR_C_PRINCIPAL_UNKNOWN (6): the KDC has no client of this name\n"),
+        (("kinit", "-S", "HTTP/nowhere", "ann"), PASSWORD, "kinit: the KDC reports KDC_ERR_S_PRINCIPAL_UNKNOWN (7): the KDC has no service of this name\n"),
+        (("kinit", "-k", "-t", realm.wrong, "f17"), "", "kinit: the keytab has no key of the client's of the encryption type (NO_KEY)\n"),
+        (("kinit", "--kdc", "tcp/127.0.0.1:1", "ann"), PASSWORD, "kinit: no KDC of HOME.TEST answers: tcp/127.0.0.1:1: Connection refused\n"),
+    ]
+    for words, text, line in rows:
+        found = command.run(*words, text=text, KRB5CCNAME="FILE:" + realm.path("plain-cache"))
+        expect(found == (1, "", line), "%s: %s, and not %s" % (words, found, line))
+
+
 def try_krb(realm, environment):
     command, path = Command(environment), realm.users
     try_help(command)
@@ -218,4 +232,5 @@ def try_krb(realm, environment):
     try_files(realm, command, path)
     try_list(realm, command, path)
     try_trace(realm, command)
+    try_plain(realm, command)
     say("krb")
