@@ -37,12 +37,25 @@ class Unread(Exception):
 
 class Facts(NamedTuple):
     """What a message is and says: its kind, as "AS-REQ" or "password request"; what it says, in a line of printable ASCII; what `krb.show` shows of
-    it, each by a name or as what it begins as; what is opened in it."""
+    it, each by a name or as what it begins as; what is opened in it. `client` and `server`: the names in it, or of its ticket, where they are known, in printable
+    ASCII. `error`: of a KRB-ERROR its code."""
 
     kind: str
     text: str
     shown: List[Tuple[Optional[str], bytes]]
     opened: List[str]
+    client: Optional[str] = None
+    server: Optional[str] = None
+    error: Optional[int] = None
+
+
+class _Says(NamedTuple):
+    """What a message says in words, and its names and code, as `Facts` has them."""
+
+    text: str
+    client: Optional[str] = None
+    server: Optional[str] = None
+    error: Optional[int] = None
 
 
 def printable(text: str) -> str:
@@ -147,9 +160,10 @@ class Reader:
             raise Unread("%d octets that begin as no message of Kerberos" % len(octets))
         opened: List[str] = []
         tree = self._tree(octets, kind, number, opened)
-        return Facts(kind, self._said(kind, tree), [(kind, octets)], opened)
+        said = self._said(kind, tree)
+        return Facts(kind, said.text, [(kind, octets)], opened, *said[1:])
 
-    def _said(self, kind: str, tree: Any) -> str:
+    def _said(self, kind: str, tree: Any) -> _Says:
         """What a message says, by its kind."""
         if kind in ("AS-REQ", "TGS-REQ"):
             return self._request(tree)
@@ -157,7 +171,7 @@ class Reader:
             client = _name(tree["cname"], tree["crealm"])
             self._remember(tree["ticket"], self._ticket(tree["ticket"])[0] or client)
             server = _name(tree["ticket"]["sname"], tree["ticket"]["realm"])
-            return "%s gets a ticket for %s" % (client, server)
+            return _Says("%s gets a ticket for %s" % (client, server), client, server)
         if kind == "KRB-ERROR":
             return self._error(tree)
         if kind == "AP-REQ":
@@ -165,17 +179,17 @@ class Reader:
             inner = tree["authenticator"].get("Authenticator")
             if inner:
                 client = _name(inner["cname"], inner["crealm"])
-            return "%s asks %s to let it in" % (client or "a client that is not known", server)
+            return _Says("%s asks %s to let it in" % (client or "a client that is not known", server), client, server)
         if kind == "Ticket":
             client, server = self._ticket(tree)
-            return "%s for %s" % (client or "a client that is not known", server)
+            return _Says("%s for %s" % (client or "a client that is not known", server), client, server)
         if kind == "KRB-CRED":
-            return "%d tickets: %s" % (len(tree["tickets"]), ", ".join(str(self._ticket(each)[1]) for each in tree["tickets"]))
-        return ""
+            return _Says("%d tickets: %s" % (len(tree["tickets"]), ", ".join(str(self._ticket(each)[1]) for each in tree["tickets"])))
+        return _Says("")
 
-    def _request(self, tree: Any) -> str:
+    def _request(self, tree: Any) -> _Says:
         body = tree["req-body"]
-        server = _name(body.get("sname"), body.get("realm")) or "no server"
+        server = _name(body.get("sname"), body.get("realm"))
         client, behalf = _name(body.get("cname"), body.get("realm")), None
         for each in tree.get("padata", ()):
             value = each.get("padata-value")
@@ -184,18 +198,20 @@ class Reader:
                 client = _name(inner["cname"], inner["crealm"]) if inner else self._ticket(value["ticket"])[0]
             if each.get("padata-type") == 129 and isinstance(value, dict):
                 behalf = _name(value.get("userName"), value.get("userRealm"))
-        said = "%s asks for %s" % (client or "a client that is not known", server)
+        said = "%s asks for %s" % (client or "a client that is not known", server or "no server")
         said += " on behalf of %s" % behalf if behalf else ""
         more = body.get("additional-tickets")
-        return said + (", with the ticket of %s" % (self._ticket(more[0])[0] or "a client that is not known") if more else "")
+        said += ", with the ticket of %s" % (self._ticket(more[0])[0] or "a client that is not known") if more else ""
+        return _Says(said, client, server)
 
-    def _error(self, tree: Any) -> str:
+    def _error(self, tree: Any) -> _Says:
         code = tree["error-code"]
         name = name_of(Registry.ERROR_CODE, code)
         said = "%d %s" % (code, name) if name else "%d, an error without a name" % code
         client, server = _name(tree.get("cname"), tree.get("crealm")), _name(tree.get("sname"), tree.get("realm"))
         said += ": %s asked for %s" % (client, server) if client else ": about %s" % server
-        return said + (' "%s"' % printable(tree["e-text"]) if tree.get("e-text") else "")
+        said += ' "%s"' % printable(tree["e-text"]) if tree.get("e-text") else ""
+        return _Says(said, client, server, code)
 
     def password(self, octets: bytes, number: int, is_request: bool) -> Facts:
         """The facts of what goes to a server of passwords or comes from it: a frame (RFC 3244, 2), or a KRB-ERROR alone."""
@@ -207,11 +223,13 @@ class Reader:
         except Refused as refused:
             raise Unread("%s: %s" % (kind, refused)) from None
         opened: List[str] = []
-        texts = []
+        texts: List[str] = []
+        who = _Says("")
         for each in (frame.ap_message, frame.krb_priv):
             name = type_of(each) or "KRB-PRIV"
             tree = self._tree(each, name, number, opened)
-            said = self._said(name, tree)
+            told = self._said(name, tree)
+            said, who = told.text, told if told.client or told.error is not None else who
             if name == "AP-REQ":
                 said = said.replace(" to let it in", " for a new password")
             if name == "KRB-PRIV" and not is_request and "EncKrbPrivPart" in tree["enc-part"]:
@@ -219,7 +237,7 @@ class Reader:
             texts += [said] if said else []
         more = len(octets) - frame.size
         texts += ["%d octets behind it" % more] if more > 0 else []
-        return Facts(kind, "; ".join(texts), shown, opened)
+        return Facts(kind, "; ".join(texts), shown, opened, *who[1:])
 
     @staticmethod
     def _frame(octets: bytes) -> Tuple[frames.PasswordFrame, List[Tuple[Optional[str], bytes]]]:
@@ -292,7 +310,7 @@ class Reader:
             facts = self.token(inner, number, depth + 1)
         except Unread as unread:
             return Facts(kind, "%s; in it: not read: %s" % (said, unread), [("token", octets)], [])
-        return Facts(kind, "%s; in it: %s" % (said, " ".join(filter(None, (facts.kind, facts.text)))), [("token", octets)], facts.opened)
+        return facts._replace(kind=kind, text="%s; in it: %s" % (said, " ".join(filter(None, (facts.kind, facts.text)))), shown=[("token", octets)])
 
 
 def _result(data: bytes) -> str:
