@@ -7,7 +7,7 @@ import json
 import shutil
 import subprocess
 import threading
-from typing import IO, Dict, Iterator, List, NamedTuple, Optional, Tuple
+from typing import IO, Callable, Dict, Iterator, List, NamedTuple, Optional, Tuple
 
 __all__ = ["KERBEROS_PORT", "PASSWORD_PORT", "Capture", "NoReader", "Packet"]
 
@@ -161,6 +161,7 @@ class Capture:
     def __init__(self, path: str = "-", octets: Optional[bytes] = None, seconds: Optional[float] = None) -> None:
         self.path, self.octets, self.seconds = path, octets, seconds
         self.trouble: Optional[str] = None
+        self.stop: Callable[[], None] = lambda: None  # stops tshark, from any thread
         self.is_stopped = False
 
     def packets(self) -> Iterator[Packet]:
@@ -182,6 +183,7 @@ class Capture:
             stopped.set()
             process.kill()
 
+        self.stop = stop
         timer = threading.Timer(self.seconds, stop) if self.seconds is not None else None
         said, strange, status = _Said(process.stderr), 0, -1
         try:
