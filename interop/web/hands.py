@@ -3,12 +3,16 @@
 import base64
 import http.server
 import os
+import subprocess
+import sys
 import threading
 
 from checks import expect, say
 from pages import shown
 from given import checksums, error_with, opened
 from keytabs import keytab_of_texts
+from site_of import Site
+from tables import TOP
 
 ERROR = error_with(b"HOME.TEST")
 AT = ERROR.index(b"HOME.TEST")
@@ -221,6 +225,32 @@ def try_files(browser, site, folder):
     browser.run((drop % added).replace("document.body.dispatch", "document.getElementById('keytabs').dispatch"), keytab)
     told = browser.run("return [document.getElementById('keytabs').files.length, document.getElementById('status').textContent]")
     expect(told == [1, status], "a keytab that is dropped on the keys: %s" % told)
+    # A file that the server is given when it starts; and files that it refuses.
+    place = os.path.join(folder, "given-" + browser.name)
+    os.mkdir(place)
+    python, library = os.path.join(TOP, "python"), os.environ["KRBC_LIBRARY"]
+    named = os.path.join(place, "an \u202eerror.der")
+    with open(named, "wb") as file:
+        file.write(ERROR)
+    other = Site(place, python, library, named)
+    try:
+        expect(other.ask("GET", "given")[2] == ERROR and other.ask("GET", "given", token="A" * 43)[0] == 404, "the file that is given to the server")
+        browser.go(other.address)
+        settled(browser)
+        told = browser.run("return [document.getElementById('status').textContent, document.getElementById('file-text').textContent, document.getElementById('card').hidden]")
+        expect(told == ["KRB-ERROR, %d octets, given as the octets themselves" % len(ERROR), 'The file "an \\u{202e}error.der" is taken, %d octets, and not the text above.' % len(ERROR), False], "a file that is given to the server: %s" % told)
+    finally:
+        other.end()
+    browser.go(site.address)
+    expect(site.ask("GET", "given")[0] == 204, "a server that is given no file has one")
+    with open(os.path.join(place, "large"), "wb") as file:
+        file.truncate((3 << 20) + 1)
+    with open(os.path.join(place, "empty"), "wb"):
+        pass
+    environment = dict(os.environ, PYTHONPATH=python, PYTHONDONTWRITEBYTECODE="1")
+    for name, why in (("none", "No such file or directory"), ("large", "large: more than 3145728 octets"), ("empty", "empty: is empty"), ("", "Is a directory")):
+        done = subprocess.run([sys.executable, "-m", "krb.web", os.path.join(place, name)], env=environment, capture_output=True, timeout=30)
+        expect(done.returncode == 1 and why in done.stderr.decode() and done.stdout == b"" and done.stderr.count(b"\n") == 1, "%r: %r" % (name, done.stderr[-200:]))
     say("files: done")
 
 

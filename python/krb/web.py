@@ -1,4 +1,4 @@
-"""A page in the browser that shows what octets hold: `python3 -m krb.web [--port N]`.
+"""A page in the browser that shows what octets hold: `python3 -m krb.web [--port N] [FILE]`.
 
 It serves one page on 127.0.0.1 alone, with what `krb.show` says of octets that are pasted or dropped: their fields beside the octets; of a capture of a network
 the messages in it, as `krb.capture` tells them. It prints the address,
@@ -25,6 +25,7 @@ import socketserver
 import sys
 import threading
 import time
+import urllib.parse
 from http import HTTPStatus
 from typing import Any, Dict, List, Optional, Tuple
 
@@ -57,7 +58,8 @@ FILES = {
     "page.css": ("page.css", "text/css; charset=utf-8"),
     "icon.svg": ("icon.svg", "image/svg+xml"),
 }
-ALIVE = "alive"
+ALIVE, GIVEN = "alive", "given"
+MOST_FILE = 3 << 20  # octets of a file that is no capture, as the page takes it
 POLICY = (
     "default-src 'none'; script-src 'self'; style-src 'self'; img-src 'self'; connect-src 'self'; form-action 'none'; base-uri 'none'; frame-ancestors 'none'; "
     "require-trusted-types-for 'script'; trusted-types 'none'"
@@ -244,6 +246,10 @@ class Handler(http.server.BaseHTTPRequestHandler):
             if name == ALIVE:
                 self._stay()
                 return
+            if name == GIVEN:
+                file_name, octets = self.server.given or ("", b"")
+                self._answer(HTTPStatus.OK if octets else HTTPStatus.NO_CONTENT, octets, "application/octet-stream", {"X-File-Name": urllib.parse.quote(file_name)})
+                return
             if name not in FILES:
                 raise Rejected(HTTPStatus.METHOD_NOT_ALLOWED if name in ("show", "capture") else HTTPStatus.NOT_FOUND, "no such page")
             body, content_type = self.server.files[name]
@@ -408,14 +414,15 @@ class Handler(http.server.BaseHTTPRequestHandler):
 
 
 class Server(socketserver.ThreadingMixIn, http.server.HTTPServer):
-    """The page on 127.0.0.1, at `address`. Port 0 is one that is free."""
+    """The page on 127.0.0.1, at `address`. Port 0 is one that is free. `given`: the name and the octets of a file that the page shows at first."""
 
     daemon_threads = True
     block_on_close = False
     allow_reuse_address = True
     request_queue_size = 128
 
-    def __init__(self, port: int = 0) -> None:
+    def __init__(self, port: int = 0, given: Optional[Tuple[str, bytes]] = None) -> None:
+        self.given = given
         folder = pathlib.Path(__file__).with_name("_web")
         kinds = "".join('<option value="%s"></option>' % kind for kind in KINDS).encode("ascii")
         self.files = {name: ((folder / file).read_bytes().replace(b"<!-- kinds -->", kinds), kind) for name, (file, kind) in FILES.items()}
@@ -466,11 +473,21 @@ def main(words: Optional[List[str]] = None) -> int:
         description="Serves a page on 127.0.0.1 that shows what Kerberos octets hold, and prints its address. Whoever knows the address may use it, until it ends: Ctrl+C.",
     )
     parser.add_argument("--port", type=int, default=0, metavar="N", help="the port, 1 to 65535; without it one that is free")
+    parser.add_argument("file", nargs="?", metavar="FILE", help="what the page shows at first")
     options = parser.parse_args(words)
     if not 0 <= options.port <= 65535:
         parser.error("the port is none from 1 to 65535")
+    given = None
     try:
-        server = Server(options.port)
+        if options.file is not None:
+            with open(options.file, "rb") as file:
+                octets = file.read(MOST_CAPTURE + 1)
+            most = MOST_CAPTURE if is_capture(octets) else MOST_FILE
+            if not 0 < len(octets) <= most:
+                print("krb.web: %s: %s" % (options.file, "more than %d octets" % most if octets else "is empty"), file=sys.stderr)
+                return 1
+            given = pathlib.Path(options.file).name, octets
+        server = Server(options.port, given)
     except OSError as error:
         print("krb.web: %s" % error, file=sys.stderr)
         return 1

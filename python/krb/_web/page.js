@@ -229,7 +229,23 @@ function followLink() {
 
 get("link").addEventListener("click", () => copy(linkOf(), "a link, which holds the octets and no keys"));
 window.addEventListener("hashchange", followLink);
-window.addEventListener("load", followLink);
+window.addEventListener("load", () => inLink(location.hash) ? followLink() : takeGiven());
+
+// What the server was given when it was started, if anything.
+async function takeGiven() {
+    const number = asked;
+    try {
+        const answer = await fetch("given", { credentials: "omit", cache: "no-store", redirect: "error" });
+        if (answer.status !== 200 || number !== asked) return;
+        const given = { name: decodeURIComponent(answer.headers.get("X-File-Name") || ""), octets: new Uint8Array(await answer.arrayBuffer()) };
+        if (number !== asked || file || get("input").value) return;
+        file = given;
+        nameFile();
+        await ask();
+    } catch (error) {
+        // (the server has ended: `leave` says so)
+    }
+}
 
 // Copying.
 
