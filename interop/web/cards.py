@@ -417,6 +417,23 @@ def tried(browser, wanted):
         expect(role in roles and re.fullmatch(pattern, name or "", re.DOTALL), "%s is %s %r to a screen reader, not %s %s" % (selector, role, name, roles, pattern))
 
 
+def try_other_client(browser):
+    """Tokens of accepted.rows whose authenticator names another client than the ticket: the card says who the ticket is of, and who else is named."""
+    count = 0
+    for row in asked("accepted"):
+        if not any("refused, OtherClient" in line for line in row.expected) and row.columns[0] != "a-t013":
+            continue
+        keytab, token = bytes.fromhex(row.columns[1]), bytes.fromhex(row.columns[5])
+        facts = {line[0]: line[1:] for line in shown(browser, token, keytabs=[keytab], form="header")["card"]["facts"]}
+        if "Opened" not in facts:
+            continue
+        count += row.columns[0] != "a-t013"
+        told = facts["Who"][1:] != [] and facts["Who"][1].startswith("the authenticator names another client: ")
+        expect(told == (row.columns[0] != "a-t013") and "@" in facts["Who"][0], "%s: %s" % (row.columns[0], facts["Who"]))
+    say("other clients: %d" % count)
+    expect(count >= 3, "few tokens of other clients are tried: %d" % count)
+
+
 def try_closed(browser):
     """Nothing is told of what is not opened: no client, no times, no checksums; and of an error what stands in it alone."""
     for title, _, _, octets, expected in opened():
@@ -433,7 +450,7 @@ def try_closed(browser):
 
 
 def try_cards(browser, site):
-    for attempt in (try_opened_cards, try_closed, try_times, try_checks, try_tables, try_map, try_places, try_named):
+    for attempt in (try_opened_cards, try_other_client, try_closed, try_times, try_checks, try_tables, try_map, try_places, try_named):
         attempt(browser)
     try_links(browser, site)
     try_examples(browser, site)

@@ -262,7 +262,8 @@ class _Card:
 
     def _names(self, message: Line, kind: str) -> None:
         """Who, and for whom. What opened parts say counts more than what stands in the clear beside them, but for replies, which are about their own client."""
-        inner = {each.type_name: each.part for each in self.sealed if each.part is not None and message in _outer(each.line)}
+        within = [each for each in self.sealed if each.part is not None and (each.line is message or message in _outer(each.line))]
+        inner = {each.type_name: each.part for each in reversed(within)}  # the first of each, which is the client's own: others may follow it
         body = _find(message, "req-body")
         if kind in ("AS-REQ", "TGS-REQ"):
             self._say("Who", _client_of_request(body) or _client(inner.get("Authenticator")) or _client(inner.get("EncTicketPart")) or self._closed(message))
@@ -271,7 +272,10 @@ class _Card:
             self._say("Who", _client(message))
             self._say("For whom", _server(_find(message, "ticket")))
         elif kind in ("AP-REQ", "Ticket"):
-            self._say("Who", _client(inner.get("Authenticator")) or _client(inner.get("EncTicketPart")) or self._closed(message))
+            of_ticket, of_sender = _client(inner.get("EncTicketPart")), _client(inner.get("Authenticator"))
+            self._say("Who", of_ticket or of_sender or self._closed(message))
+            if None not in (of_ticket, of_sender) and of_ticket != of_sender:
+                self._say("Who", "the authenticator names another client: %s" % of_sender, "bad")
             self._say("For whom", _server(_find(message, "ticket") if kind == "AP-REQ" else message))
         elif kind == "KRB-ERROR":
             self._say("Error", _type(_find(message, "error-code"), Registry.ERROR_CODE), "bad")
