@@ -330,7 +330,7 @@ def called(octets):
         size = int.from_bytes(octets[11:13], "big")
         name, realm = octets[13 : 13 + size].decode(), "R"
     quote = lambda text: "".join(special.get(each, each) for each in text)
-    numbered = lambda each: "\\x%02x" % ord(each) if ord(each) < 256 else "\\u%04x" % ord(each) if ord(each) < 65536 else "\\U%08x" % ord(each)
+    numbered = lambda each: "\\r" if each == "\r" else "\\x%02x" % ord(each) if ord(each) < 256 else "\\u%04x" % ord(each) if ord(each) < 65536 else "\\U%08x" % ord(each)
     return "".join(each if " " <= each <= "~" else numbered(each) for each in quote(name) + "@" + quote(realm))
 
 
