@@ -22,16 +22,17 @@ async function readCapture(number, octets, keys, form) {
     let drawn = 0, bad = null, isWhole = false;
     const take = (line) => {
         const told = JSON.parse(line);
-        if (told.bad !== undefined) bad = told.bad;
-        if (told.messages) {
-            for (const row of told.messages) {
-                row.number = list.rows.length;
-                row.answer = null;
-                if (row.pair !== null) list.rows[row.pair].answer = row;
-                list.rows.push(row);
-            }
-            get("progress").value = told.read;
+        if (told.bad !== undefined) {
+            bad = told.bad;
+            return;
         }
+        for (const row of told.messages) {
+            row.number = list.rows.length;
+            row.answer = null;
+            if (row.pair !== null) list.rows[row.pair].answer = row;
+            list.rows.push(row);
+        }
+        get("progress").value = told.read;
         if (told.notes) [list.notes, list.trouble, isWhole] = [told.notes, told.trouble, true];
         if (performance.now() < drawn + 300 || isWhole) return;
         drawn = performance.now();
