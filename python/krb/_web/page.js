@@ -51,8 +51,9 @@ function say(error, status) {
     get("status").textContent = gone ? "" : status;
 }
 
+// A sentence of a text; a program keeps its name.
 function spoken(text) {
-    return text && text[0].toUpperCase() + text.slice(1) + (/[.!?]$/.test(text) ? "" : ".");
+    return text && (text.startsWith("tshark") ? text : text[0].toUpperCase() + text.slice(1)) + (/[.!?]$/.test(text) ? "" : ".");
 }
 
 // The server.
