@@ -453,6 +453,12 @@ def try_table(browser):
     told = browser.run(FILTER + "document.getElementById('errors-only').click();" + TOLD, "")
     expect([row[0] for row in told["rows"]] == ["2", "8"], "errors alone: %s" % told["rows"])
     browser.run("document.getElementById('errors-only').click()")
+    # A request that is sent again: the first reply answers the first of them; and a reply of another kind none.
+    again = [at_ports(requested[2], 40001)] * 2 + [at_ports(replied[2], 40001, True)] * 2 + [at_ports(requested[2], 40002), at_ports(find("TGS-REP")[2], 40002, True)]
+    told = drop(browser, capture(again))
+    results = [row[7] for row in told["rows"]]
+    wanted = ["AS-REP in packet 3, after 2.00 s", "AS-REP in packet 4, after 2.00 s", "answers packet 1, after 2.00 s", "answers packet 2, after 2.00 s", "no answer", ""]
+    expect(results == wanted, "a request that is sent again: %s" % results)
     say("the table and the picture: done")
 
 
