@@ -4,6 +4,7 @@ import base64
 import http.client
 import json
 import socket
+import struct
 import threading
 import time
 
@@ -21,6 +22,9 @@ HEADERS = {
 POLICY = ["default-src 'none'", "script-src 'self'", "style-src 'self'", "connect-src 'self'", "form-action 'none'", "base-uri 'none'"]
 POLICY += ["frame-ancestors 'none'"]
 ERROR = error_with(b"HOME.TEST")
+OCTETS = "application/octet-stream"
+PCAP = bytes.fromhex("d4c3b2a1") + struct.pack("<HHiIII", 2, 4, 0, 0, 262144, 1)
+CAPTURE = dict(name="capture", headers={"Content-Type": OCTETS}, body=b"\0\0\0\x02{}" + PCAP)
 GOOD = json.dumps({"input": base64.b64encode(ERROR).decode()}).encode()
 
 
@@ -31,7 +35,7 @@ def is_good(answer):
 
 
 def try_headers(site):
-    kinds = {"": "text/html", "page.js": "text/javascript", "page.css": "text/css", "icon.svg": "image/svg+xml", "show": "application/json", "none": "text/plain"}
+    kinds = {"": "text/html", "page.js": "text/javascript", "card.js": "text/javascript", "page.css": "text/css", "icon.svg": "image/svg+xml", "show": "application/json", "none": "text/plain"}
     for name, kind in kinds.items():
         method = "POST" if name == "show" else "GET"
         status, headers, _ = site.ask(method, name, body=GOOD if name == "show" else None)
@@ -41,7 +45,7 @@ def try_headers(site):
         policy = [each.strip() for each in headers.get("Content-Security-Policy", "").split(";")]
         expect(all(each in policy for each in POLICY) and "unsafe" not in str(policy) and "*" not in str(policy), "%r has another policy: %s" % (name, policy))
     page = site.ask("GET", "")[2].decode()
-    expect("<style" not in page and " style=" not in page and "onclick" not in page and page.count("<script") == 1, "something is inline")
+    expect("<style" not in page and " style=" not in page and "onclick" not in page and page.count("<script") == 5, "something is inline")
 
 
 def try_requests(site):
@@ -80,6 +84,21 @@ def try_requests(site):
         ("no type", 415, dict(headers={"Content-Type": None})),
         ("a type of parts", 415, dict(headers={"Content-Type": "multipart/form-data; boundary=x"})),
         ("GET of what is posted", 405, dict(method="GET")),
+        ("GET of a capture", 405, dict(method="GET", name="capture")),
+        ("a capture to another host", 421, dict(CAPTURE, headers={"Host": "elsewhere.test"})),
+        ("a capture with another token", 404, dict(CAPTURE, token=other)),
+        ("a capture of another origin", 403, dict(CAPTURE, headers={"Origin": "http://elsewhere.test", "Content-Type": OCTETS})),
+        ("a capture of no origin", 403, dict(CAPTURE, headers={"Origin": None, "Content-Type": OCTETS})),
+        ("a capture as JSON", 415, dict(CAPTURE, headers={})),
+        ("a capture as a form", 415, dict(CAPTURE, headers={"Content-Type": "multipart/form-data; boundary=x"})),
+        ("a capture of no octets", 400, dict(CAPTURE, body=b"")),
+        ("a capture without keys", 400, dict(CAPTURE, body=bytes.fromhex("d4c3b2a1") * 6)),
+        ("keys of a capture that are not there", 400, dict(CAPTURE, body=b"\0\0\0\x03{}")),
+        ("keys of a capture that are no JSON", 400, dict(CAPTURE, body=b"\0\0\0\x01{" + PCAP)),
+        ("keys of a capture that are no object", 400, dict(CAPTURE, body=b"\0\0\0\x02[]" + PCAP)),
+        ("keytabs of a capture that are no list", 400, dict(CAPTURE, body=b'\0\0\0\x0e{"keytabs":1 }' + PCAP)),
+        ("no capture where one is asked for", 400, dict(CAPTURE, body=b"\0\0\0\x02{}" + ERROR)),
+        ("a capture of more than 64 MiB", 413, dict(CAPTURE, headers={"Content-Length": str((64 << 20) + (4 << 20) + 5), "Content-Type": OCTETS}, body=None)),
         ("POST to the page", 405, dict(name="")),
         ("POST to the script", 405, dict(name="page.js")),
         ("PUT", 501, dict(method="PUT")),

@@ -1,12 +1,16 @@
 """Captures in the page. Each is put together here, octet by octet, so it is known which messages are in it, and where."""
 
 import base64
+import http.client
+import json
 import os
 import re
+import socket
 import stat
 import struct
 import time
 
+from cards import principal, tree_of
 from checks import expect, say
 from pages import names_of, secrets_in
 from site_of import Site
@@ -15,7 +19,6 @@ from given import MARKUP, error_with, opened, pages
 CLIENT, SERVER = "10.0.0.1", "10.0.0.2"
 ERROR = error_with(b"HOME.TEST")
 BEGIN = 1700000000  # 2023-11-14T22:13:20Z, the time of the first packet
-TIMES = ["2023-11-14T22:13:%02d.000005Z" % second for second in range(20, 60)]
 # Drops a file, waits for what is shown of it, and tells it.
 DROP = """
 const get = (id) => document.getElementById(id), given = new DataTransfer();
@@ -32,7 +35,7 @@ get("go").click();
 TOLD = """
 const at = (id) => document.getElementById(id);
 return (async () => {
-    for (let n = 0; n < 4000 && (at("status").textContent === "Asking" || !(at("status").textContent + at("error").textContent)); n++)
+    for (let n = 0; n < 4000 && (at("status").textContent === "Asking" || !at("stop").hidden || !(at("status").textContent + at("error").textContent)); n++)
         await new Promise((done) => setTimeout(done, 10));
     const lines = [...document.querySelectorAll("#tree li")].map((item) => {
         const value = item.querySelector(":scope > .row > .value");
@@ -40,16 +43,23 @@ return (async () => {
         return "  ".repeat(item.getAttribute("aria-level") - 1) + name + (value ? " " + value.textContent : "");
     });
     return { status: at("status").textContent, error: at("error").textContent, notes: [...at("notes").children].map((each) => each.textContent), lines,
-        list: at("capture").hidden ? null : [...at("messages").querySelectorAll("button")].map((each) => each.textContent),
-        alone: [...at("messages").querySelectorAll("button[aria-disabled=true]")].map((each) => each.textContent.split(" ")[0]),
-        odd: [...document.querySelectorAll("#messages *, #of-capture *")].map((each) => each.tagName)
-            .filter((name) => !["LI", "BUTTON", "SPAN"].includes(name)),
+        list: at("capture").hidden ? null : [...at("messages").querySelectorAll("button")].map((each) => each.title),
+        rows: [...at("messages").querySelectorAll("tbody tr")].map((row) => [...row.cells].map((cell) => cell.textContent.trim())),
+        red: [...at("messages").querySelectorAll("tbody tr.error")].map((row) => row.cells[0].textContent),
+        arrows: [...document.querySelectorAll("#sequence .arrow")].map((each) => [each.getAttribute("aria-label"), each.classList.contains("error")]),
+        lanes: [...document.querySelectorAll("#sequence svg > text[text-anchor]")].map((each) => each.textContent),
+        bars: document.querySelectorAll("#sequence .held").length, where: at("rows-where").textContent,
+        alone: [...at("messages").querySelectorAll("button[aria-disabled=true]")].map((each) => each.title.split(" ")[0]),
+        odd: [...document.querySelectorAll("#messages *, #of-capture *, #sequence *")].filter((each) =>
+            !["BUTTON", "SPAN", "THEAD", "TBODY", "TR", "TH", "TD", "svg", "g", "line", "text", "rect", "path", "title"].includes(each.tagName)
+            || [...each.attributes].some((one) => /^on|href|src|style/i.test(one.name))).map((each) => each.tagName),
         back: !at("of-capture").hidden, of: at("of-line").textContent, result: !at("result").hidden, text: document.body.innerText,
         octets: shown ? shown.sources.map((each) => [...each.octets].map((octet) => octet.toString(16).padStart(2, "0")).join("")) : [],
-        answer: JSON.stringify([list, shown], (name, value) => ["item", "around", "lines", "button"].includes(name) ? undefined : value),
-        focus: document.activeElement.id || document.activeElement.textContent };
+        answer: JSON.stringify([list, shown], (name, value) => ["item", "around", "lines", "shownIn", "answer", "lanes"].includes(name) ? undefined : value),
+        focus: document.activeElement.id || document.activeElement.title };
 })();
 """
+FILTER = "document.getElementById('filter').value = arguments[0]; document.getElementById('filter').dispatchEvent(new Event('input'));"
 OPEN_ALL = "document.getElementById('open-all').click();"
 
 
@@ -95,10 +105,15 @@ def capture_of_blocks(frames):
     return made
 
 
+def when(number):
+    """The time of a packet."""
+    return "2023-11-14T22:%02d:%02d.000005Z" % (13 + (20 + number - 1) // 60, (20 + number - 1) % 60)
+
+
 def front(number, way="UDP", is_reply=False, ports=(40000, 88), kind=""):
     """How the line of a packet begins, by how it was made."""
     ends = ["%s:%d" % (CLIENT, ports[0]), "%s:%d" % (SERVER, ports[1])]
-    return "%d %s %s %s %s" % (number, TIMES[number - 1], " > ".join(reversed(ends) if is_reply else ends), way, kind)
+    return "%d %s %s %s %s" % (number, when(number), " > ".join(reversed(ends) if is_reply else ends), way, kind)
 
 
 def drop(browser, octets):
@@ -141,7 +156,7 @@ def try_list(browser, site):
     for title, octets in forms.items():
         told = drop(browser, octets)
         begin_so(told, fronts, title)
-        expect(told["status"] == "5 messages in a capture of %d octets, given as the octets themselves" % len(octets), "%s: %r" % (title, told["status"]))
+        expect(told["status"] == "5 messages, 1 error in a capture of %d octets, given as the octets themselves" % len(octets), "%s: %r" % (title, told["status"]))
         expect(told["alone"] == ["3", "6"] and not told["result"] and not told["back"], "%s: rows that cannot be chosen: %s" % (title, told["alone"]))
         expect(told["notes"] == [], "%s: notes: %s" % (title, told["notes"]))
         expect(not any("opened" in line for line in told["list"]) and "about x@HOME.TEST" in told["list"][1], "%s: %s" % (title, told["list"]))
@@ -211,20 +226,16 @@ def try_broken(browser, site):
     for cut in (1, last - 1, last + 1, last + 15):
         told = drop(browser, whole[:-cut])
         begin_so(told, [front(1, is_reply=True, kind="KRB-ERROR "), front(2, is_reply=True, kind="KRB-ERROR ")], "cut by %d" % cut)
-        expect("cut short" in told["error"] and told["error"].endswith("; 2 messages up to there"), "a capture that is cut by %d: %r" % (cut, told["error"]))
+        expect("cut short" in told["error"] and told["error"].endswith("; 2 messages up to there."), "a capture that is cut by %d: %r" % (cut, told["error"]))
     for magic in ("a1b2c3d4", "d4c3b2a1", "a1b23c4d", "4d3cb2a1", "0a0d0d0a"):
         for garbage in (b"", b"\xff" * 300, b"\x01\x02\x03\x04" * 200):
             told = drop(browser, bytes.fromhex(magic) + garbage)
             expect(told["list"] is None and not told["result"], "%s and garbage: a list of %s" % (magic, told["list"]))
             expect(told["error"] != "" and "\n" not in told["error"] or told["status"].startswith("0 messages"), "%s and garbage: nothing is said" % magic)
     told = drop(browser, b"\xd4\xc3\xb2\xa0" + whole[4:])
-    expect("begin as no kind" in told["error"] and told["list"] is None, "octets that begin nearly as a capture: %r" % told["error"])
-    told = drop(browser, capture([reply(ERROR)] * 1001))
-    expect(len(told["list"] or []) == 1000 and any("more than 1000 messages" in each for each in told["notes"]), "1001 messages: %s" % told["notes"])
-    told = drop(browser, capture([reply(ERROR)] * 1000))
-    expect(len(told["list"] or []) == 1000 and not any("more than" in each for each in told["notes"]), "1000 messages: %s" % told["notes"])
-    told = drop(browser, capture([to(bytes(60000), 9)] * 30 + [reply(ERROR)]))
-    begin_so(told, [front(31, is_reply=True, kind="KRB-ERROR ")], "1.8 MB")
+    expect("begin as nothing that is known" in told["error"] and told["list"] is None, "octets that begin nearly as a capture: %r" % told["error"])
+    told = drop(browser, capture([to(bytes(60000), 9)] * 100 + [reply(ERROR)]))
+    begin_so(told, [front(101, is_reply=True, kind="KRB-ERROR ")], "6 MB")
     told = drop(browser, capture([reply(error_with(text.encode())) for text in MARKUP[:20]]))
     begin_so(told, [front(number + 1, is_reply=True, kind="KRB-ERROR ") for number in range(20)], "markup")
     plain = [(text, line) for text, line in zip(MARKUP, told["list"]) if not re.search(r'[\\@/"]', text)]
@@ -240,7 +251,7 @@ def try_keys_alone(browser, site, whole):
     steps = [("ArrowDown", 1), ("End", 4), ("ArrowDown", 4), ("ArrowUp", 3), ("Home", 0), ("ArrowUp", 0), ("PageDown", 4), ("Home", 0), ("ArrowDown", 1)]
     for key, wanted in steps:
         browser.press(key)
-        focus = browser.run("return document.activeElement.textContent")
+        focus = browser.run("return document.activeElement.title")
         expect(focus == told["list"][wanted], "%s leads to %r" % (key, focus[:60]))
         stops = browser.run("return [...document.querySelectorAll('#messages button')].filter((each) => each.tabIndex === 0).length")
         expect(stops == 1, "%d stops in the list" % stops)
@@ -261,10 +272,10 @@ def try_keys_alone(browser, site, whole):
 
 def try_looks(browser, whole, pictures, contrast):
     """Narrow and wide, dark and light."""
-    for width, height, size in ((1440, 1000, "wide"), (360, 800, "narrow")):
-        browser.tool("Emulation.setDeviceMetricsOverride", width=width, height=height, deviceScaleFactor=1, mobile=size == "narrow")
+    for width, height, size in ((1440, 900, "wide"), (390, 844, "narrow")):
+        browser.size(width, height)
         for scheme in ("light", "dark"):
-            browser.tool("Emulation.setEmulatedMedia", features=[{"name": "prefers-color-scheme", "value": scheme}])
+            browser.scheme(scheme)
             drop(browser, whole)
             for name in ("list", "message"):
                 if name == "message":
@@ -274,9 +285,9 @@ def try_looks(browser, whole, pictures, contrast):
                 expect(wide <= room, "%s: %d pixels in %d" % (what, wide, room))
                 count, low = browser.run(contrast)
                 expect(count > 15 and low == [], "%s: little contrast in %d of %d: %s" % (what, len(low), count, low[:5]))
-                browser.picture(os.path.join(pictures, "capture-%s-%s-%s.png" % (name, size, scheme)))
-    browser.tool("Emulation.clearDeviceMetricsOverride")
-    browser.tool("Emulation.setEmulatedMedia", features=[])
+                browser.picture(os.path.join(pictures, "%s-capture-%s-%s-%s.png" % (browser.name.lower(), name, size, scheme)))
+    browser.size()
+    browser.scheme()
     say("what a list looks like: done")
 
 
@@ -299,23 +310,69 @@ def try_reader(folder, python, library, browser=None):
         try:
             begun = time.monotonic()
             if name == "none":
-                bad = site.show(whole)
+                (bad,) = pieces_of(site, whole)
                 expect(list(bad) == ["bad"] and "Debian's package tshark" in bad["bad"] and "\n" not in bad["bad"], "without tshark: %s" % bad)
                 if browser is not None:
                     browser.go(site.address)
                     told = drop(browser, whole)
-                    expect(told["error"] == bad["bad"] and told["list"] is None, "without tshark the page says %r" % told["error"])
+                    expect(told["error"] == bad["bad"] + "." and told["list"] is None, "without tshark the page says %r" % told["error"])
             else:
-                told = site.show(whole)
-                took = time.monotonic() - begun
-                expect(isinstance(told, dict) and "stopped after 20 seconds" in (told.get("trouble") or ""), "a tshark that never ends: %s" % (told,))
-                expect(19 < took < 28, "a tshark that never ends is stopped after %.1f seconds" % took)
-                expect(children_of(site.process.pid) == [], "tshark goes on")
+                try_stopped(browser, site, whole, begun)
             expect('"HOME.TEST"' in str(site.show(ERROR)), "a message is not shown behind a capture")
             expect(site.written() == [], "files are written: %s" % site.written())
         finally:
             site.end()
     say("without tshark, and one that never ends: done")
+
+
+def pieces_of(site, octets, seconds=60):
+    """What the server says of a capture, line by line."""
+    link = http.client.HTTPConnection("127.0.0.1", site.port, timeout=seconds)
+    try:
+        link.request("POST", "/%s/capture" % site.token, struct.pack(">I", 2) + b"{}" + octets, {"Origin": site.origin, "Content-Type": "application/octet-stream"})
+        answer = link.getresponse()
+        return [json.loads(line) for line in answer]
+    finally:
+        link.close()
+
+
+def try_stopped(browser, site, whole, begun):
+    """A tshark that never ends: it is stopped with the page's button, and when whoever asked has gone away; meanwhile messages are shown, and no more than two
+    captures are read at once."""
+    waits = lambda count: [time.sleep(0.1) for _ in range(100) if len(children_of(site.process.pid)) != count] and None
+    if browser is not None:
+        browser.go(site.address)
+        asking = browser.run(DROP + "return new Promise((done) => setTimeout(() => done([get('stop').hidden, get('progress').hidden, get('status').textContent]), 1500))", base64.b64encode(whole).decode())
+        expect(asking == [False, False, "Asking"] and len(children_of(site.process.pid)) == 1, "while tshark goes on: %s" % asking)
+        role, name = browser.named("#progress")
+        expect(role in ("progressbar", "progress") and name == "How much of the capture is read" and browser.named("#stop") == ("button", "Stop"), "progress: %s %r" % (role, name))
+        browser.click("#stop")
+        told = browser.run(TOLD)
+        expect(told["error"] == "Stopped; 0 messages up to there.", "a reading that is stopped: %r" % told["error"])
+        waits(0)
+        expect(children_of(site.process.pid) == [], "tshark goes on when it is stopped")
+        browser.run(DROP + "return new Promise((done) => setTimeout(done, 500))", base64.b64encode(whole).decode())
+        browser.run("document.getElementById('clear').click()")
+        waits(0)
+        expect(children_of(site.process.pid) == [] and browser.run("return document.getElementById('stop').hidden"), "tshark goes on when all is cleared")
+        browser.run(DROP + "return new Promise((done) => setTimeout(done, 500))", base64.b64encode(whole).decode())
+        browser.go("about:blank")
+        waits(0)
+        expect(children_of(site.process.pid) == [], "tshark goes on when the page has gone away")
+    links = []
+    for number in range(2):
+        link = socket.create_connection(("127.0.0.1", site.port), 20)
+        head = "POST /%s/capture HTTP/1.1\r\nHost: %s\r\nOrigin: %s\r\nContent-Type: application/octet-stream\r\nContent-Length: %d\r\n\r\n"
+        link.sendall((head % (site.token, site.host, site.origin, len(whole) + 6)).encode() + struct.pack(">I", 2) + b"{}" + whole)
+        links.append(link)
+    waits(2)
+    expect(len(children_of(site.process.pid)) == 2, "two captures are read at once")
+    status = site.ask(name="capture", headers={"Content-Type": "application/octet-stream"}, body=struct.pack(">I", 2) + b"{}" + whole)[0]
+    expect(status == 503, "a third capture at once: %d" % status)
+    for link in links:
+        link.close()
+    waits(0)
+    expect(children_of(site.process.pid) == [], "tshark goes on when who asked has gone")
 
 
 def children_of(parent):
@@ -330,9 +387,126 @@ def children_of(parent):
     return found
 
 
+def at_ports(octets, port, is_reply=False, server=SERVER, client=CLIENT):
+    """A datagram between a client's port and a KDC's."""
+    ends, ports = ((server, client), (88, port)) if is_reply else ((client, server), (port, 88))
+    return packet(*ends, 17, struct.pack(">HHHH", *ports, 8 + len(octets), 0) + octets)
+
+
+def try_table(browser):
+    """Columns, pairs, errors, the filter and the picture of a capture of which it is known what answers what."""
+    find = lambda name, origin="mit": next(row for row in pages() if row[:2] == (origin, name) and row[3][-1].startswith("{"))
+    requested, replied = find("AS-REQ"), find("AS-REP")
+    tree = tree_of(replied[3][:-1])
+    client, server = principal(tree.find("cname"), tree.text("crealm")), principal(tree.find("ticket", "sname"), tree.text("ticket", "realm"))
+    other = "10.0.0.9"
+    frames = [
+        at_ports(requested[2], 40001), at_ports(ERROR, 40001, True), at_ports(requested[2], 40002), at_ports(requested[2], 40003, client=other),
+        at_ports(replied[2], 40003, True, client=other), at_ports(replied[2], 40002, True), at_ports(replied[2], 40009, True), to(b"no message"), at_ports(requested[2], 40004),
+    ]
+    told = drop(browser, capture(frames))
+    wanted = [
+        ["1", "0.000000", CLIENT + ":40001", SERVER + ":88", "AS-REQ", "KDC_ERR_S_PRINCIPAL_UNKNOWN (7) in packet 2, after 1.00 s"],
+        ["2", "1.000000", SERVER + ":88", CLIENT + ":40001", "KRB-ERROR", "KDC_ERR_S_PRINCIPAL_UNKNOWN (7), after 1.00 s"],
+        ["3", "2.000000", CLIENT + ":40002", SERVER + ":88", "AS-REQ", "AS-REP in packet 6, after 3.00 s"],
+        ["4", "3.000000", other + ":40003", SERVER + ":88", "AS-REQ", "AS-REP in packet 5, after 1.00 s"],
+        ["5", "4.000000", SERVER + ":88", other + ":40003", "AS-REP", "answers packet 4, after 1.00 s"],
+        ["6", "5.000000", SERVER + ":88", CLIENT + ":40002", "AS-REP", "answers packet 3, after 3.00 s"],
+        ["7", "6.000000", SERVER + ":88", CLIENT + ":40009", "AS-REP", ""],
+        ["8", "7.000000", CLIENT + ":40000", SERVER + ":88", "not read", None],
+        ["9", "8.000000", CLIENT + ":40004", SERVER + ":88", "AS-REQ", "no answer"],
+    ]
+    got = [row[:5] + row[7:] for row in told["rows"]]
+    right = len(got) == len(wanted) and all(one[:5] == other[:5] and other[5] in (None, one[5]) for one, other in zip(got, wanted))
+    expect(right, "the table is %s" % got)
+    names = [row[5:7] for row in told["rows"]]
+    expect(names[4] == names[5] == [client, server] and names[1][1] == "x@HOME.TEST" and names[7] == ["", ""], "who and for whom: %s" % names)
+    expect(told["red"] == ["2", "8"] and told["rows"][7][7].startswith("not read: "), "red are %s" % told["red"])
+    # The picture: an arrow for each message, the lanes, a bar for each pair.
+    expect(len(told["arrows"]) == 9 and told["bars"] == 3, "the picture has %d arrows, %d bars" % (len(told["arrows"]), told["bars"]))
+    expect(told["lanes"] == ["client", CLIENT, "client", other, "KDC", SERVER], "the lanes are %s" % told["lanes"])
+    expect([red for _, red in told["arrows"]] == [number in (1, 7) for number in range(9)], "red arrows: %s" % told["arrows"])
+    begun = "Packet 6, 5.000000 s: AS-REP, 3.00 s, %s, for %s, from %s:88 to %s:40002" % (client, server, SERVER, CLIENT)
+    expect(told["arrows"][5][0] == begun, "an arrow is called %r, not %r" % (told["arrows"][5][0], begun))
+    ends = browser.run("""const lanes = [...document.querySelectorAll("#sequence .lane")].map((each) => Number(each.getAttribute("x1")));
+        return [...document.querySelectorAll("#sequence .arrow line")].map((each) => ["x1", "x2"].map((name) => { const x = Number(each.getAttribute(name));
+            return lanes.reduce((best, lane, number) => Math.abs(lane - x) < Math.abs(lanes[best] - x) ? number : best, 0); }))""")
+    expect(ends == [[0, 2], [2, 0], [0, 2], [1, 2], [2, 1], [2, 0], [2, 0], [0, 2], [0, 2]], "the arrows go between the lanes %s" % ends)
+    svg = browser.named("#sequence svg"), browser.named("#sequence .arrow"), browser.named("#messages"), browser.named("#filter"), browser.named("#messages button")
+    expect(svg[0] == ("group", "Messages 1 to 9 between client %s, client %s, KDC %s" % (CLIENT, other, SERVER)), "the picture is %s to a screen reader" % (svg[0],))
+    expect(svg[1][0] == "button" and svg[1][1].startswith("Packet 1, 0.000000 s: AS-REQ"), "an arrow is %s to a screen reader" % (svg[1],))
+    expect(svg[2] == ("table", "Messages of the capture") and svg[3] == ("searchbox", "Filter") and svg[4] == ("button", "AS-REQ"), "the table is %s" % (svg[2:],))
+    browser.run("document.querySelector('#sequence .arrow').focus()")
+    browser.press("ArrowDown", "ArrowDown", "End", "ArrowUp", "Home", "ArrowDown", "Enter")
+    browser.run("return new Promise((done) => setTimeout(done, 300))")
+    shown_now = browser.run(TOLD)
+    expect(shown_now["result"] and shown_now["octets"] == [ERROR.hex()], "Enter on an arrow shows %s" % shown_now["lines"][:2])
+    browser.click("#back")
+    browser.run("document.querySelectorAll('#sequence .arrow')[4].dispatchEvent(new MouseEvent('click', { bubbles: true })); return new Promise((done) => setTimeout(done, 300))")
+    expect(browser.run(TOLD)["octets"] == [replied[2].hex()], "a click on an arrow shows another message")
+    browser.click("#back")
+    for text, packets in (("krb-error", "2"), (other, "45"), ("40002", "36"), (client.upper(), None), ("no such thing", "")):
+        told = browser.run(FILTER + TOLD, text)
+        got = "".join(row[0] for row in told["rows"])
+        expect(got == packets or packets is None and set("56") <= set(got) and "8" not in got, "the filter %r leaves %s" % (text, got))
+        expect(len(told["arrows"]) == len(told["rows"]), "the picture has other messages than the table, by %r" % text)
+    told = browser.run(FILTER + "document.getElementById('errors-only').click();" + TOLD, "")
+    expect([row[0] for row in told["rows"]] == ["2", "8"], "errors alone: %s" % told["rows"])
+    browser.run("document.getElementById('errors-only').click()")
+    # A request that is sent again: the first reply answers the first of them; and a reply of another kind none.
+    again = [at_ports(requested[2], 40001)] * 2 + [at_ports(replied[2], 40001, True)] * 2 + [at_ports(requested[2], 40002), at_ports(find("TGS-REP")[2], 40002, True)]
+    told = drop(browser, capture(again))
+    results = [row[7] for row in told["rows"]]
+    wanted = ["AS-REP in packet 3, after 2.00 s", "AS-REP in packet 4, after 2.00 s", "answers packet 1, after 2.00 s", "answers packet 2, after 2.00 s", "no answer", ""]
+    expect(results == wanted, "a request that is sent again: %s" % results)
+    say("the table and the picture: done")
+
+
+def try_many(browser, site):
+    """1501 messages: 200 at a time, and all by the keyboard; and hostile ends that leave no lane."""
+    from large import large
+
+    octets = large(1500) + capture([reply(ERROR)])[24:]
+    told = drop(browser, octets)
+    expect(told["status"].startswith("1501 messages, ") and len(told["rows"]) == 200 == len(told["arrows"]) and told["where"] == "1 to 200 of 1501", "1501 messages: %r" % told["where"])
+    paired = sum(bool(row[7]) for row in told["rows"])
+    expect(paired == 200, "%d of 200 messages have a result" % paired)
+    browser.run("document.querySelector('#messages button').focus()")
+    browser.press("End")
+    told = browser.run(TOLD)
+    expect(told["where"] == "1401 to 1501 of 1501" and told["focus"].startswith("1501 "), "End leads to %r, %r" % (told["where"], told["focus"][:30]))
+    browser.press("PageUp", "ArrowUp")
+    expect(browser.run(TOLD)["focus"].startswith("1490 "), "up by eleven leads to %r" % browser.run(TOLD)["focus"][:30])
+    browser.press("Enter")
+    browser.run("return new Promise((done) => setTimeout(done, 300))")
+    browser.press("Enter")
+    told = browser.run(TOLD)
+    expect(told["where"] == "1401 to 1501 of 1501" and told["focus"].startswith("1490 "), "the way back leads to %r" % told["where"])
+    browser.click("#rows-earlier")
+    expect(browser.run(TOLD)["where"] == "1201 to 1400 of 1501", "earlier leads to %r" % browser.run(TOLD)["where"])
+    told = drop(browser, capture([at_ports(ERROR, 40000 + number, True, client="10.1.%d.1" % number) for number in range(30)]))
+    expect(len(told["lanes"]) == 20 and told["lanes"][-2:] == ["others", "22 addresses"] and len(told["arrows"]) == 30, "31 addresses: %s" % told["lanes"])
+    expect(site.memory() < 300 << 20, "the server took %d octets of memory" % site.memory())
+    say("many messages: done")
+
+
+def try_counts():
+    """How many packets a capture is said to have, for the progress, of captures that are cut or that lie too."""
+    from krb._listed import packets_in
+
+    frames = [reply(ERROR)] * 7
+    for octets, wanted in ((capture(frames), 7), (capture(frames, ">"), 7), (capture(frames, nanoseconds=True), 7), (capture_of_blocks(frames), 7), (capture([]), 1)):
+        expect(packets_in(octets) == wanted, "%d packets, not %d" % (packets_in(octets), wanted))
+    for octets in (capture(frames)[:-1], capture(frames)[:30], b"\xd4\xc3\xb2\xa1", b"\x0a\x0d\x0d\x0a" + bytes(100), b"\x0a\x0d\x0d\x0a" + b"\xff" * 100, b"\xd4\xc3\xb2\xa1" + b"\xff" * 100):
+        expect(1 <= packets_in(octets) <= 7 + len(octets) // 12, "%d packets in %d octets" % (packets_in(octets), len(octets)))
+
+
 def try_captures(browser, site, pictures):
     from hands import CONTRAST
 
+    try_counts()
+    try_table(browser)
+    try_many(browser, site)
     whole = try_list(browser, site)
     try_broken(browser, site)
     try_keys_alone(browser, site, whole)

@@ -59,6 +59,7 @@ def try_held(site):
     link.request("GET", "/%s/alive" % site.token, headers={"Host": site.host})
     answer = link.getresponse()
     try:
+        answer.read(1)  # which comes at once
         answer.read(1)
         expect(False, "the answer that is held open ends while the server runs")
     except socket.timeout:
@@ -66,8 +67,9 @@ def try_held(site):
     link.close()
     link = socket.create_connection(("127.0.0.1", site.port), 10)
     link.sendall(("GET /%s/alive HTTP/1.1\r\nHost: %s\r\n\r\n" % (site.token, site.host)).encode())
-    while b"\r\n\r\n" not in link.recv(65536):
-        pass
+    came = b""
+    while b"\r\n\r\n\n" not in came:
+        came += link.recv(65536)
     return link
 
 
@@ -83,7 +85,7 @@ def try_ended(folder, python, library, browser=None):
         while browser.run(TOLD)[4] in ("", "Asking") and time.monotonic() < end:
             time.sleep(0.1)
         told = browser.run(TOLD)
-        right = told[0].startswith("TRUNCATED") and told[1:4] == ["18:" + "00" * 32 + "a password", 1, False] and "2 octets" in told[4]
+        right = told[0].startswith("The octets end too early") and told[1:4] == ["18:" + "00" * 32 + "a password", 1, False] and "2 octets" in told[4]
         expect(right, "the page while its server runs: %s" % told)
     site.end()
     link.settimeout(5)

@@ -3,12 +3,16 @@
 import base64
 import http.server
 import os
+import subprocess
+import sys
 import threading
 
 from checks import expect, say
 from pages import shown
 from given import checksums, error_with, opened
 from keytabs import keytab_of_texts
+from site_of import Site
+from tables import TOP
 
 ERROR = error_with(b"HOME.TEST")
 AT = ERROR.index(b"HOME.TEST")
@@ -72,6 +76,7 @@ def try_keyboard(browser, site):
     browser.press(*ERROR.hex())
     browser.press("Control+Enter")
     settled(browser)
+    expect(browser.run(ACTIVE) == "card-title", "what is shown has not the focus, but %s" % browser.run(ACTIVE))
     expect(browser.run("return document.getElementById('status').textContent") == "KRB-ERROR, %d octets, given as hexadecimal" % len(ERROR), "typed octets are not shown")
     tab_to(browser, "KRB-ERROR:")
     for key, wanted in (
@@ -103,10 +108,14 @@ def try_keyboard(browser, site):
         browser.press("Enter")
         browser.run("return new Promise((done) => setTimeout(done, 200))")
         expect(browser.run("return document.getElementById('status').textContent").startswith("Copied as "), "nothing is copied")
-        tab_to(browser, "input", back=True)
+        tab_to(browser, "change", back=True)
+        browser.press("Enter")
+        expect(browser.run(ACTIVE) == "input", "the form that is opened has not the focus, but %s" % browser.run(ACTIVE))
         browser.press("Control+a", "Control+v")
+        browser.run("return new Promise((done) => setTimeout(done, 300))")
         value = browser.run("return document.getElementById('input').value")
         expect(wanted in value and "KRB-ERROR" in value, "%s: %r is pasted" % (button, value[:80]))
+        tab_to(browser, "input", back=True)
         browser.press("Control+a", *ERROR.hex())
         browser.press("Control+Enter")
         settled(browser)
@@ -126,7 +135,7 @@ def try_keyboard(browser, site):
     settled(browser)
     text = lambda: browser.run("return document.getElementById('tree').innerText")
     expect('"key 1@given kvno 1"' in text() and "keyvalue:" in text() and secret not in text() and "hidden" in text(), "a key by the keyboard: %r" % text()[-200:])
-    tab_to(browser, "show", back=True) if browser.run(ACTIVE) not in ("keys",) else tab_to(browser, "show")
+    tab_to(browser, "show", back=True)
     browser.press("Space")
     browser.run("return new Promise((done) => setTimeout(done, 300))")
     settled(browser)
@@ -144,7 +153,10 @@ def try_keyboard(browser, site):
 
 def try_names(browser):
     """Each thing that can be operated has a name (Chromium's own tree of accessibility), and the tree its roles."""
+    if browser.name != "Chromium":
+        return  # (cards.py asks Firefox of each)
     shown(browser, ERROR)
+    browser.run("document.getElementById('change').click()")
     nodes = [node for node in browser.tool("Accessibility.getFullAXTree")["nodes"] if not node.get("ignored")]
     roles = {}
     for node in nodes:
@@ -213,6 +225,32 @@ def try_files(browser, site, folder):
     browser.run((drop % added).replace("document.body.dispatch", "document.getElementById('keytabs').dispatch"), keytab)
     told = browser.run("return [document.getElementById('keytabs').files.length, document.getElementById('status').textContent]")
     expect(told == [1, status], "a keytab that is dropped on the keys: %s" % told)
+    # A file that the server is given when it starts; and files that it refuses.
+    place = os.path.join(folder, "given-" + browser.name)
+    os.mkdir(place)
+    python, library = os.path.join(TOP, "python"), os.environ["KRBC_LIBRARY"]
+    named = os.path.join(place, "an \u202eerror.der")
+    with open(named, "wb") as file:
+        file.write(ERROR)
+    other = Site(place, python, library, named)
+    try:
+        expect(other.ask("GET", "given")[2] == ERROR and other.ask("GET", "given", token="A" * 43)[0] == 404, "the file that is given to the server")
+        browser.go(other.address)
+        settled(browser)
+        told = browser.run("return [document.getElementById('status').textContent, document.getElementById('file-text').textContent, document.getElementById('card').hidden]")
+        expect(told == ["KRB-ERROR, %d octets, given as the octets themselves" % len(ERROR), 'The file "an \\u{202e}error.der" is taken, %d octets, and not the text above.' % len(ERROR), False], "a file that is given to the server: %s" % told)
+    finally:
+        other.end()
+    browser.go(site.address)
+    expect(site.ask("GET", "given")[0] == 204, "a server that is given no file has one")
+    with open(os.path.join(place, "large"), "wb") as file:
+        file.truncate((3 << 20) + 1)
+    with open(os.path.join(place, "empty"), "wb"):
+        pass
+    environment = dict(os.environ, PYTHONPATH=python, PYTHONDONTWRITEBYTECODE="1")
+    for name, why in (("none", "No such file or directory"), ("large", "large: more than 3145728 octets"), ("empty", "empty: is empty"), ("", "Is a directory")):
+        done = subprocess.run([sys.executable, "-m", "krb.web", os.path.join(place, name)], env=environment, capture_output=True, timeout=30)
+        expect(done.returncode == 1 and why in done.stderr.decode() and done.stdout == b"" and done.stderr.count(b"\n") == 1, "%r: %r" % (name, done.stderr[-200:]))
     say("files: done")
 
 
@@ -221,10 +259,10 @@ def try_pictures(browser, pictures):
     title, keys, octets, _ = next(row for row in checksums() if row[0] == "made under 18 and 20, both keys")
     bad = ERROR[:AT] + b"HO\xffE.TEST" + ERROR[AT + 9 :]
     grounds = {"light": "rgb(255, 255, 255)", "dark": "rgb(21, 24, 28)"}
-    for width, height, size in ((1440, 1000, "wide"), (360, 800, "narrow")):
-        browser.tool("Emulation.setDeviceMetricsOverride", width=width, height=height, deviceScaleFactor=1, mobile=size == "narrow")
+    for width, height, size in ((1440, 900, "wide"), (390, 844, "narrow")):
+        browser.size(width, height)
         for scheme in ("light", "dark"):
-            browser.tool("Emulation.setEmulatedMedia", features=[{"name": "prefers-color-scheme", "value": scheme}])
+            browser.scheme(scheme)
             for name, given in (("ticket", octets), ("error", bad)):
                 shown(browser, given, keytabs=[keytab_of_texts([each]) for each in keys])
                 browser.run(POSED)
@@ -234,11 +272,11 @@ def try_pictures(browser, pictures):
                 expect(browser.run("return getComputedStyle(document.body).backgroundColor") == grounds[scheme], "%s: another ground" % what)
                 count, low = browser.run(CONTRAST)
                 expect(count > 20 and low == [], "%s: little contrast in %d of %d: %s" % (what, len(low), count, low[:5]))
-                browser.picture(os.path.join(pictures, "%s-%s-%s.png" % (name, size, scheme)))
+                browser.picture(os.path.join(pictures, "%s-%s-%s-%s.png" % (browser.name.lower(), name, size, scheme)))
                 browser.run("document.getElementById('result').scrollIntoView()")
-                browser.picture(os.path.join(pictures, "%s-%s-%s-below.png" % (name, size, scheme)))
-    browser.tool("Emulation.clearDeviceMetricsOverride")
-    browser.tool("Emulation.setEmulatedMedia", features=[])
+                browser.picture(os.path.join(pictures, "%s-%s-%s-%s-below.png" % (browser.name.lower(), name, size, scheme)))
+    browser.size()
+    browser.scheme()
     say("pictures: in %s" % pictures)
 
 
@@ -252,7 +290,7 @@ const tries = {
     get: () => fetch(address).then((answer) => answer.text()),
     script: () => new Promise((done, failed) => { const each = document.createElement("script"); each.src = address + "page.js"; each.onload = () => done("a script"); each.onerror = failed; document.body.append(each); }),
     frame: () => new Promise((done) => { const each = document.createElement("iframe"); each.src = address; each.onload = () => { let inside = "none";
-        try { inside = each.contentDocument ? each.contentDocument.title : "none"; } catch (error) {} done(inside === "Kerberos octets" ? inside : ""); }; document.body.append(each); }),
+        try { inside = each.contentDocument ? each.contentDocument.title : "none"; } catch (error) {} done(inside === "Jolmurig: Kerberos octets" ? inside : ""); }; document.body.append(each); }),
 };
 (async () => { for (const [name, attempt] of Object.entries(tries)) { try { told[name] = await attempt(); } catch (error) { told[name] = ""; } } window.told = told; })();
 </script>"""
@@ -288,9 +326,9 @@ def try_others(browser, site):
         server.server_close()
     browser.go(site.address.replace("127.0.0.1", "rebound.test"))
     text = browser.run("return document.body.innerText")
-    expect("another host" in text and "Kerberos" not in text, "a name that leads to 127.0.0.1: %r" % text[:100])
+    expect("another host" in text and "Jolmurig" not in text, "a name that leads to 127.0.0.1: %r" % text[:100])
     browser.go(site.address)
-    expect(browser.run("return document.title") == "Kerberos octets", "the page itself, behind them")
+    expect(browser.run("return document.title") == "Jolmurig: Kerberos octets", "the page itself, behind them")
     say("other pages: done")
 
 

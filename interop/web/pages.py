@@ -17,6 +17,15 @@ from tables import asked
 SHOW = """
 const [text, octets, kind, keytabs, keys, password, salt, show] = arguments;
 const get = (id) => document.getElementById(id);
+const texts = (selector) => [...document.querySelectorAll(selector)].map((each) => each.textContent);
+const cardOf = () => ({
+    title: get("card-title").textContent,
+    facts: [...get("facts").children].reduce((all, each) => { each.tagName === "DT" ? all.push([each.textContent]) : all[all.length - 1].push(each.textContent); return all; }, []),
+    times: get("times").hidden ? null : [get("times-words").className, get("times-words").textContent, get("bar").getAttribute("aria-label")],
+    listed: get("times").hidden ? [] : texts("#times-list dt").map((name, number) => [name, texts("#times-list dd")[number].slice(0, 20)]),
+    checks: get("holds").hidden ? [] : [...get("checks").children].map((each) => [each.className.replace("check-line ", ""), ...[...each.children].map((one) => one.textContent)]),
+    chains: [...get("chains").children].map((chain) => [...chain.children].map((each) => [each.className.replace("node ", ""), ...[...each.children].map((one) => one.textContent)])),
+});
 const fileOf = (base64, name) => new File([Uint8Array.from(atob(base64), (letter) => letter.charCodeAt(0))], name);
 const give = (id, files) => { const given = new DataTransfer(); for (const each of files) given.items.add(each); get(id).files = given.files; };
 return (async () => {
@@ -31,8 +40,9 @@ return (async () => {
         await new Promise((done) => setTimeout(done, 10));
     }
     if (!get("result").hidden) get("open-all").click();
-    const allowed = ["role", "class", "aria-level", "aria-expanded", "aria-selected", "aria-hidden", "tabindex", "hidden"];
-    const odd = [...document.querySelectorAll("#tree *, #octets *, #verdicts *, #notes *")].filter((each) => !["LI", "UL", "DIV", "SPAN", "B"].includes(each.tagName)
+    const allowed = ["role", "class", "aria-level", "aria-expanded", "aria-selected", "aria-hidden", "tabindex", "hidden", "title", "id", "type", "scope", "style", "aria-label", "aria-labelledby"];
+    const tags = ["LI", "UL", "OL", "DIV", "SPAN", "B", "BUTTON", "DL", "DT", "DD", "H2", "H3", "P", "THEAD", "TBODY", "TR", "TH", "TD"];
+    const odd = [...document.querySelectorAll("#tree *, #octets *, #card *, #notes *, #table *, #map *, #legend *")].filter((each) => !tags.includes(each.tagName)
         || [...each.attributes].some((one) => !allowed.includes(one.name)));
     const lines = [...document.querySelectorAll("#tree li")].map((item) => {
         const value = item.querySelector(":scope > .row > .value");
@@ -41,6 +51,7 @@ return (async () => {
     return {
         lines, odd: odd.map((each) => each.outerHTML.slice(0, 100)), error: get("error").textContent, status: get("status").textContent,
         notes: [...get("notes").children].map((each) => each.textContent), verdicts: [...get("verdicts").children].map((each) => [each.className, each.textContent]),
+        card: get("card").hidden ? null : cardOf(), table: get("table-pane").hidden ? null : [...get("table").rows].map((row) => [...row.cells].map((cell) => cell.textContent)),
         sources: [...get("source").options].map((each) => each.textContent),
         text: document.body.innerText, answer: JSON.stringify(shown, (name, value) => name === "item" || name === "around" || name === "lines" ? undefined : value),
         octets: shown ? shown.sources.map((each) => [...each.octets].map((octet) => octet.toString(16).padStart(2, "0")).join("")) : [],
@@ -48,6 +59,8 @@ return (async () => {
     };
 })();
 """
+# What is said of a status.
+WORDS = {"INVALID": "What stands in the octets is not as their type has it.", "TRUNCATED": "The octets end too early.", "UNSUPPORTED": "The octets have a length in a form"}
 # What the page says of files that are refused is not a status alone.
 FILES = ("told", "keytab", "ccache")
 # How a page is told that has, or is, a format which is no DER: a PAC, a checksum of the GSS-API, NEGOEX, a keytab, a cache, a token.
@@ -66,7 +79,7 @@ def shown(browser, octets, kind="", keytabs=(), keys="", password="", salt="", s
     text = {"hex": octets.hex(), "base64": base64.encodebytes(octets).decode(), "header": "Authorization: Negotiate " + base64.b64encode(octets).decode()}.get(form)
     file = None if text is not None else base64.b64encode(octets).decode()
     told = browser.run(SHOW, text, file, kind, [base64.b64encode(each).decode() for each in keytabs], keys, password, salt, show)
-    expect(told["odd"] == [] and told["scripts"] == 1 and told["misled"], "markup of the octets is in the page: %s" % told["odd"][:3])
+    expect(told["odd"] == [] and told["scripts"] == 5 and told["misled"], "markup of the octets is in the page: %s" % told["odd"][:3])
     return told
 
 
@@ -179,8 +192,9 @@ def try_rows(browser):
         told = shown(browser, octets, kind, show=True, form=form)
         if not expected[-1].startswith("{"):
             counts["refused"] += 1
-            status = expected[0] if expected[0] in ("INVALID", "TRUNCATED", "UNSUPPORTED") and name not in FILES else ""
-            expect(told["error"].startswith(status) and told["error"] != "" and not told["copied"][1], "%s: %r, not %r" % (title, told["error"], expected[0]))
+            why = WORDS.get(expected[0], "") if name not in FILES else ""
+            expect(told["error"].startswith(why) and told["error"] != "" and not told["copied"][1], "%s: %r, not %r" % (title, told["error"], expected[0]))
+            expect(told["card"] is None and told["table"] is None, "%s: a card of what is refused: %s" % (title, told["card"]))
             continue
         counts["shown"] += 1
         lines, (text, as_json) = told["lines"], told["copied"]
@@ -307,6 +321,19 @@ def try_buffers(browser):
     expect(count > 80, "few buffers are tried: %d" % count)
 
 
+def called(octets):
+    """What a principal of a row of `misleading` is called: as RFC 1964, 2.1.3, quotes it, and what is no printable ASCII by its number."""
+    special = {"\\": "\\\\", "/": "\\/", "@": "\\@", "\n": "\\n", "\t": "\\t", "\b": "\\b", "\0": "\\0"}
+    if octets[0] == 0x7E:
+        name, realm = "x", re.search(rb"(?s)\xa9.\x1b.(.*)\xaa", octets).group(1).decode()
+    else:
+        size = int.from_bytes(octets[11:13], "big")
+        name, realm = octets[13 : 13 + size].decode(), "R"
+    quote = lambda text: "".join(special.get(each, each) for each in text)
+    numbered = lambda each: "\\r" if each == "\r" else "\\x%02x" % ord(each) if ord(each) < 256 else "\\u%04x" % ord(each) if ord(each) < 65536 else "\\U%08x" % ord(each)
+    return "".join(each if " " <= each <= "~" else numbered(each) for each in quote(name) + "@" + quote(realm))
+
+
 def try_misleading(browser):
     count = 0
     for title, octets, wanted in misleading():
@@ -315,7 +342,12 @@ def try_misleading(browser):
             count += 1
             expect(wanted in told["lines"], "%s: other lines: %s" % (title, told["error"] or told["lines"][:8]))
             expect(all(" " <= letter <= "~" for line in told["lines"] for letter in line), "%s: a letter that is no printable ASCII" % title)
-            odd = [letter for letter in told["text"] if not (" " <= letter <= "~" or letter in "\n\t\u25b8\u25be\u00b7")]
+            name = called(octets)
+            if told["table"] is None:
+                expect(["About", name] in told["card"]["facts"], "%s: the card has not %r: %s" % (title, name, told["card"]["facts"]))
+            else:
+                expect([row[2] for row in told["table"][1:]] == [name], "%s: the table has not %r: %s" % (title, name, told["table"]))
+            odd = [letter for letter in told["text"] if not (" " <= letter <= "~" or letter in "\n\t\u25b8\u25be\u00b7\u2192")]
             expect(odd == [], "%s: letters on the page: %r" % (title, odd[:5]))
     names = ["\u202egpj.exe", "<img src=x onerror=misled=1>.keytab", "a\nb\x07", "\u2066x"]
     for name in names:
@@ -366,11 +398,12 @@ def try_verdicts(browser):
     row = next(row.columns for row in asked("accepted") if row.columns[0] == "a-t013")
     keytab, token = bytes.fromhex(row[1]), bytes.fromhex(row[5])
     now, sent = shown(browser, token, keytabs=[keytab], form="header")["verdicts"]
-    expect(now[0] == "bad" and re.fullmatch(r"refused: SKEW: the client's time is \d+ s behind \(limit 300\)", now[1]), "the verdict of now: %s" % now)
-    let_in = "accepted: alice@PEER.TEST for e17/web.peer.test@PEER.TEST, until 2026-11-27T17:08:23Z; no replay cache was asked"
+    off = re.fullmatch(r"Now: no, the client's clock is (\d+) (y|d) (\d+) (d|h) behind, and at most 5 min are allowed \(SKEW\)", now[1])
+    expect(now[0] == "bad" and off is not None, "the verdict of now: %s" % now)
+    let_in = "When it was sent: yes, alice@PEER.TEST for e17/web.peer.test@PEER.TEST, until 2026-11-27T17:08:23Z; no replay cache was asked"
     expect(sent == ["good", let_in], "the verdict of when it was sent: %s" % sent)
     told = shown(browser, token, keytabs=[keytab_of_texts(["18:" + "00" * 32 + ":HTTP/other.test@PEER.TEST kvno 1"])], form="header")
-    expect([each[0] for each in told["verdicts"]] == ["bad"] and "NOT_US" in told["verdicts"][0][1], "the verdict by another keytab: %s" % told["verdicts"])
+    expect([each[0] for each in told["verdicts"]] == ["bad"] and told["verdicts"][0][1].startswith("no, ") and "(NOT_US)" in told["verdicts"][0][1], "the verdict by another keytab: %s" % told["verdicts"])
     expect(shown(browser, token, form="header")["verdicts"] == [], "a verdict without a keytab")
     expect(shown(browser, error_with(b"HOME.TEST"), keytabs=[keytab])["verdicts"] == [], "a verdict of what is no token")
     say("verdicts: done")
@@ -383,11 +416,11 @@ def try_refused(browser):
     bad = good[:at] + b"HO\xffE.TEST" + good[at + 9 :]
     told = shown(browser, bad)
     # An error of a content is where the content begins (krb.h, krb_items).
-    expect(told["error"].startswith("INVALID at octet %d:" % at), "the place of an error: %r, not %d" % (told["error"], at))
+    expect(told["error"] == WORDS["INVALID"] + " The first error is at octet %d." % at, "the place of an error: %r, not %d" % (told["error"], at))
     expect(any('GeneralString@' in line and "HO\\xffE.TEST" in line for line in told["lines"]), "no tree of what is refused: %s" % told["lines"][:5])
     expect(browser.run("return [...document.querySelectorAll('#octets .hex b.fault')].map((each) => each.at + ' ' + each.textContent)") == ["%d 48" % at], "another octet is marked")
     cut = shown(browser, good[:-3])
-    expect(cut["error"].startswith("TRUNCATED at octet "), "a cut message: %r" % cut["error"])
+    expect(re.fullmatch(r"The octets end too early\. The first error is at octet \d+\.", cut["error"]), "a cut message: %r" % cut["error"])
     for octets in (keytab_of_texts(["17:" + "5a" * 16 + ":a@R kvno 1"])[:-1], element(0x7D, b"\x5a" * 40), element(0x30, element(0xA0, b"\x5a" * 40))):
         told = shown(browser, octets)
         hides = "5a5a5a" not in told["text"].replace(" ", "") and not any("5a5a" in each for each in told["octets"])
@@ -395,15 +428,17 @@ def try_refused(browser):
         told = shown(browser, octets, show=True)
         expect(any("5a5a" in each for each in told["octets"]), "octets that are refused are hidden where they were asked for")
     told = shown(browser, b"\x30\x00")
-    expect("choose one" in told["error"], "octets of no kind: %r" % told["error"])
+    expect(told["error"] == 'The octets begin as nothing that is known: choose one of the kinds under "Read as".', "octets of no kind: %r" % told["error"])
     told = shown(browser, good, kind="NONE")
-    expect("no kind has this name" in told["error"], "a kind that there is not: %r" % told["error"])
+    expect(told["error"] == "No kind has this name.", "a kind that there is not: %r" % told["error"])
     told = shown(browser, good, kind="krb-error")
     expect(told["error"] == "" and told["lines"][0] == "KRB-ERROR:", "a kind in small letters: %r" % told["error"])
     told = shown(browser, good, keytabs=[b"no keytab"])
     expect("is no keytab" in told["error"], "a keytab that is none: %r" % told["error"])
     told = shown(browser, good, keys="17:00")
-    expect("key 1 is not ETYPE:HEX" in told["error"], "a key that is none: %r" % told["error"])
+    expect(told["error"].startswith("Key 1 is not ETYPE:HEX"), "a key that is none: %r" % told["error"])
+    told = shown(browser, good, keys="23:" + "00" * 16)
+    expect(told["error"] == "Key 1: encryption type 23 (rc4-hmac) is not supported, which has to be 16 to 20.", "a key of RC4: %r" % told["error"])
     for octets, form in ((b"\x05\x02" + bytes(10), "file"), (b"\x01" * (512 * 1024 + 1), "file")):
         told = shown(browser, octets, form=form)
         expect(len(octets) < 100 or "at most 524288" in told["error"], "too many octets: %r" % told["error"])
@@ -430,11 +465,10 @@ def try_large(browser):
 
 def try_log(browser, site):
     """The requests of all pages, and what the browser complains of."""
-    asked = [json.loads(each["message"])["message"] for each in browser.log("performance")]
-    asked = [each["params"] for each in asked if each["method"] == "Network.requestWillBeSent"]
-    urls = [each["request"]["url"] for each in asked if not each["documentURL"].startswith("chrome")]  # but for the browser's own first page
-    expect(len(urls) > 100 and all(each.startswith(site.address) for each in urls), "requests elsewhere: %s" % [each for each in urls if not each.startswith(site.address)][:5])
-    complaints = [each["message"] for each in browser.log("browser")]
+    urls = browser.urls()
+    elsewhere = [each for each in urls if not each.startswith(site.address)]
+    expect(len(urls) > 100 and elsewhere == [], "requests elsewhere: %s" % elsewhere[:5])
+    complaints = browser.complaints()
     expect(complaints == [], "the browser complains: %s" % complaints[:3])
     say("%d requests, all to the server" % len(urls))
 

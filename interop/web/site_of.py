@@ -11,7 +11,7 @@ import sys
 class Site:
     """`python3 -m krb.web` in empty folders of its own."""
 
-    def __init__(self, folder, python, library):
+    def __init__(self, folder, python, library, *words):
         self.folders = {name: os.path.join(folder, "site-" + name) for name in ("home", "cwd", "tmp")}
         for each in self.folders.values():
             os.makedirs(each)
@@ -19,7 +19,7 @@ class Site:
         environment["KRBC_LIBRARY"] = library
         self.errors = os.path.join(folder, "site-errors")
         with open(self.errors, "wb") as errors:
-            command = [sys.executable, "-m", "krb.web"]
+            command = [sys.executable, "-m", "krb.web", *words]
             self.process = subprocess.Popen(command, env=environment, cwd=self.folders["cwd"], stdout=subprocess.PIPE, stderr=errors, stdin=subprocess.DEVNULL)
         self.address = self.process.stdout.readline().decode("ascii").strip()
         self.host, self.token = self.address.split("/")[2:4]

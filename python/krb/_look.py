@@ -22,6 +22,7 @@ from krb.negotiate import NegotiationRole, Negotiator, NotNegotiated
 __all__ = ["Verdict", "run_accept", "run_show", "verdicts_of"]
 
 _TIME = "%Y-%m-%dT%H:%M:%SZ"
+_SKEW = 300  # of an acceptor, where it is told of no other
 
 
 def octets_of(path: Optional[str]) -> bytes:
@@ -98,11 +99,13 @@ def accepted(acceptor: Acceptor, octets: bytes) -> Optional[Context]:
 
 
 class Verdict(NamedTuple):
-    """Whether a client is let in, a line that says so, and the time of the client where its clock is off."""
+    """Whether a client is let in, a line that says so, and the time of the client where its clock is off; why, in words alone, and the rule that is broken."""
 
     is_let_in: bool
     text: str
     sent: Optional[int] = None
+    why: str = ""
+    rule: Optional[Rule] = None
 
 
 def verdict_of(acceptor: Acceptor, octets: bytes) -> Verdict:
@@ -110,23 +113,39 @@ def verdict_of(acceptor: Acceptor, octets: bytes) -> Verdict:
     try:
         found = accepted(acceptor, octets)
     except NotAccepted as refused:
-        return Verdict(False, printable("refused: %s" % refused), refused.seen if refused.rule == Rule.SKEW else None)
+        why = printable(str(refused)[len(refused.rule.name + ": ") :])
+        return Verdict(False, printable("refused: %s" % refused), refused.seen if refused.rule == Rule.SKEW else None, why, refused.rule)
     except NotNegotiated as refused:
-        return Verdict(False, printable("refused: %s" % refused))
+        return Verdict(False, printable("refused: %s" % refused), why=printable(str(refused)))
     if found is None:
-        return Verdict(False, "not accepted yet: the message has no token of Kerberos, and a service asks for one")
-    names = found.client, found.server, found.end_time.strftime(_TIME)
-    return Verdict(True, printable("accepted: %s for %s, until %s; no replay cache was asked" % names))
+        why = "the message has no token of Kerberos, and a service asks for one"
+        return Verdict(False, "not accepted yet: " + why, why=why)
+    names = printable("%s for %s, until %s; no replay cache was asked" % (found.client, found.server, found.end_time.strftime(_TIME)))
+    return Verdict(True, "accepted: " + names, why=names)
+
+
+def span_of(seconds: int) -> str:
+    """A span of time in its two largest units, as "4 d 11 h"."""
+    left, parts = abs(seconds), []  # type: int, List[str]
+    for size, unit in ((31536000, "y"), (86400, "d"), (3600, "h"), (60, "min"), (1, "s")):
+        if left >= size or parts:
+            parts.append("%d %s" % (left // size, unit))
+            left %= size
+        if len(parts) == 2:
+            break
+    return " ".join(each for each in parts if not each.startswith("0 ")) or "0 s"
 
 
 def verdicts_of(keytab: bytes, octets: bytes) -> List[Verdict]:
     """What a service with this keytab says of a token now, and where the clock of the client is off also what it would have said when the token was sent; none
     where nothing is decided."""
+    clock = float(int(time.time()))
     try:
-        now = verdict_of(Acceptor(keytab, replay_cache=False), octets)
+        now = verdict_of(Acceptor(keytab, replay_cache=False, clock=lambda: clock), octets)
         if now.sent is None:
             return [now]
-        sent = float(now.sent)
+        sent, off = float(now.sent), int(clock) - now.sent
+        now = now._replace(why="the client's clock is %s %s, and at most %s are allowed" % (span_of(off), "behind" if off > 0 else "ahead", span_of(_SKEW)))
         return [now, verdict_of(Acceptor(keytab, replay_cache=False, clock=lambda: sent), octets)]
     except (Refused, ValueError):
         return []

@@ -8,7 +8,7 @@ import re
 import shutil
 import subprocess
 import threading
-from typing import IO, Dict, Iterator, List, NamedTuple, Optional, Tuple
+from typing import IO, Callable, Dict, Iterator, List, NamedTuple, Optional, Tuple
 
 __all__ = ["KERBEROS_PORT", "PASSWORD_PORT", "Capture", "NoReader", "Packet"]
 
@@ -165,6 +165,7 @@ class Capture:
     ) -> None:
         self.path, self.octets, self.seconds, self.file = path, octets, seconds, file
         self.trouble: Optional[str] = None
+        self.stop: Callable[[], None] = lambda: None  # stops tshark, from any thread
         self.is_stopped = False
         self.count: Optional[int] = None
 
@@ -188,6 +189,7 @@ class Capture:
             stopped.set()
             process.kill()
 
+        self.stop = stop
         timer = threading.Timer(self.seconds, stop) if self.seconds is not None else None
         said, strange, status = _Said(process.stderr), 0, -1
         try:

@@ -45,6 +45,17 @@ _ENDS = (PageForm.STRUCT_END, PageForm.LIST_END)
 _ESCAPES = {each: "\\" + chr(each) if each in b'"\\' else "\\x%02x" % each for each in range(256) if not 32 <= each < 127 or each in b'"\\'}
 
 
+# Why octets are refused, in words for people.
+_REFUSALS = {
+    Status.INVALID: "what stands in the octets is not as their type has it",
+    Status.TRUNCATED: "the octets end too early",
+    Status.UNSUPPORTED: "the octets have a length in a form that is not supported",
+    Status.TOO_DEEP: "elements stand too deep in one another",
+    Status.OTHER_VERSION: "the octets are of another version of their format",
+    Status.NUMBER: 'the octets begin as nothing that is known: choose one of the kinds under "Read as"',
+}
+
+
 class BadInput(ValueError):
     """What the page was given besides the octets is not right; the text says what."""
 
@@ -92,6 +103,7 @@ class Page(NamedTuple):
     notes: List[str]
     hides_octets: bool
     untold: List[int]  # the sources of which no line has the whole
+    may_hold_keys: bool = True  # the octets given, as far as is known without their lines
 
 
 def _written(item: PageItem) -> str:
@@ -298,9 +310,7 @@ def _error_of(octets: bytes, kind: Optional[str], refused: Refused) -> Tuple[str
             offset = found[1] if found and found[0] == status else None
     except Refused:
         pass
-    text = TEXTS.get(status, "refused")
-    if status == Status.NUMBER:
-        text = "the octets begin as no kind that is told by how it begins; choose one" if not kind else "no kind has this name"
+    text = "no kind has this name" if status == Status.NUMBER and kind else _REFUSALS.get(status, TEXTS.get(status, "the octets are refused"))
     return status.name, text, offset
 
 
@@ -338,9 +348,20 @@ def page_of(octets: bytes, kind: Optional[str], keytab: bytes, show_keys: bool) 
             notes.append("Below are the tags, lengths and contents of the elements, as far as they go.")
         if hides:
             notes.append("What the octets hold is not known, and may be keys: they are hidden until keys and passwords are asked for.")
-        return Page(lines, sources, text, "", _error_of(octets, kind, refused), notes, hides, []), []
+        return Page(lines, sources, text, "", _error_of(octets, kind, refused), notes, hides, [], _may_hold_keys(octets, told)), []
     untold = [number for number in range(len(tree.sources)) if number not in tree.told]
-    return Page(tree.lines, tree.sources, text, as_json, None, notes, False, untold), list(dict.fromkeys(tree.salts))
+    may_hold_keys = known == "tree" and _may_hold_keys(octets, type_of(octets))
+    return Page(tree.lines, tree.sources, text, as_json, None, notes, False, untold, may_hold_keys), list(dict.fromkeys(tree.salts))
+
+
+def _is_secret(line: Line) -> bool:
+    """Whether a line is of a secret in the octets given, or in octets that are not known."""
+    if line.value != "hidden" and line.item.form != PageForm.SECRET:
+        return False
+    around: Optional[Line] = line
+    while around is not None and around.place is None:
+        around = around.around
+    return around is None or around.place is None or around.place.source == 0
 
 
 def masks_of(page: Page, hidden: bool) -> List[List[Tuple[int, int]]]:
@@ -388,6 +409,11 @@ def _key(written: str, number: int) -> bytes:
     except ValueError:
         key = None
     etype = etypes.get(etype_text)
+    named = {name: other for other in range(-150, 30) for name in [name_of(Registry.ENCRYPTION_TYPE, other)] if name}
+    other = named.get(etype_text, int(etype_text) if re.fullmatch("-?[0-9]{1,5}", etype_text) else None)
+    if etype is None and key is not None and other is not None:
+        name = name_of(Registry.ENCRYPTION_TYPE, other)
+        raise BadInput("key %d: encryption type %d%s is not supported, which has to be 16 to 20" % (number, other, " (%s)" % name if name else ""))
     if key is None or etype is None or len(key) != crypto.key_size(etype):
         raise BadInput("key %d is not ETYPE:HEX, with ETYPE 16 to 20 or the name of such a type, and as many octets as its keys have" % number)
     return entry_of(_GIVEN, b"key %d" % number, etype, key)
@@ -432,4 +458,4 @@ def as_answer(page: Page, show_keys: bool, form: str) -> Dict[str, Any]:
     if len(page.lines) > MOST_LINES:
         notes.append("The tree has %d lines, of which the first %d are here; the text and the JSON have all." % (len(page.lines), MOST_LINES))
     error = None if page.error is None else {"status": page.error[0], "text": page.error[1], "offset": page.error[2]}
-    return {"form": form, "sources": sources, "lines": lines, "notes": notes, "error": error, "text": page.text, "json": page.json, "hidden": page.hides_octets}
+    return {"form": form, "secret": page.may_hold_keys or _CLEAR in page.sources[0].octets or any(map(_is_secret, page.lines)), "sources": sources, "lines": lines, "notes": notes, "error": error, "text": page.text, "json": page.json, "hidden": page.hides_octets}

@@ -1,22 +1,20 @@
-// What the page does. All text goes into the document by textContent; the server decodes.
+// What the page does: what is given, and asking the server, which decodes. All text goes into the document by textContent.
 "use strict";
 
 const MOST_OCTETS = 3 << 20; // of a file, as the server takes it in base64
-const WINDOW = 4096; // octets that are in the document at once
-const MANY = 400; // lines beyond which a tree is not all open at first
+const MOST_CAPTURE = 64 << 20; // of a capture, as the server takes it
+const MOST_LINK = 24 << 10; // octets in a link
+const CAPTURES = ["a1b2c3d4", "d4c3b2a1", "a1b23c4d", "4d3cb2a1", "0a0d0d0a"]; // how they begin: pcap in either order, pcapng
 const get = (id) => document.getElementById(id);
 
 let file = null; // the octets of a file, and its name
 let shown = null; // what the server said last, with the lines as objects
-let chosen = null; // the line that is chosen
-let source = 0; // whose octets are shown
-let start = 0; // the first octet that is shown
-let cursor = null; // the octet that the keyboard is on
-let list = null; // the messages of a capture, as the server told them, and the item of each
+let list = null; // the messages of a capture, as the server told them
 let picked = null; // the message of the list that is shown in place of it
 let asked = 0; // requests so far: an answer to an earlier one is not shown
 let held = null; // whether the server holds an answer open, which ends when the server does
 let gone = false; // the server has ended: nothing is sent any more
+let stopping = null; // what stops the reading of a capture
 const GONE = "The server has ended. Close this page: nothing is sent any more.";
 
 function made(tag, name, text) {
@@ -38,14 +36,24 @@ function fromBase64(text) {
     return octets;
 }
 
+function isCapture(octets) {
+    return CAPTURES.includes([...octets.subarray(0, 4)].map((octet) => octet.toString(16).padStart(2, "0")).join(""));
+}
+
 async function octetsOf(given) {
-    if (given.size > MOST_OCTETS) throw new Error("The file has " + given.size + " octets; at most " + MOST_OCTETS + " are taken.");
+    const most = isCapture(new Uint8Array(await given.slice(0, 4).arrayBuffer())) ? MOST_CAPTURE : MOST_OCTETS;
+    if (given.size > most) throw new Error("The file has " + given.size + " octets; at most " + most + " are taken.");
     return new Uint8Array(await given.arrayBuffer());
 }
 
 function say(error, status) {
     get("error").textContent = gone ? GONE : error;
     get("status").textContent = gone ? "" : status;
+}
+
+// A sentence of a text; a program keeps its name.
+function spoken(text) {
+    return text && (text.startsWith("tshark") ? text : text[0].toUpperCase() + text.slice(1)) + (/[.!?]$/.test(text) ? "" : ".");
 }
 
 // The server.
@@ -80,33 +88,46 @@ hold();
 
 // Asking.
 
+function post(name, type, body, signal) {
+    return fetch(name, { method: "POST", headers: { "Content-Type": type }, body, signal, credentials: "omit", cache: "no-store", redirect: "error" });
+}
+
+async function keysGiven() {
+    const keytabs = [];
+    for (const each of get("keytabs").files) keytabs.push(base64(await octetsOf(each)));
+    return { keytabs, keys: get("keys").value, password: get("password").value, salt: get("salt").value, show: get("show").checked };
+}
+
 // Asks about what is given, or about a message of the list.
 async function ask(message) {
     if (gone) return say("", "");
     const number = ++asked;
+    if (stopping) stopping.abort();
+    const linked = message || file ? null : inLink(get("input").value);
+    if (linked) {
+        get("input").value = linked.text;
+        get("kind").value = linked.kind;
+    }
     const octets = message ? fromBase64(message.octets) : file ? file.octets : new TextEncoder().encode(get("input").value);
     picked = message || null;
     if (!message) list = null;
     if (!octets.length) {
         clearResult();
-        return say("There are no octets: paste some, or choose a file.", "");
+        return say("There are no octets: paste some, choose a file, or click an example.", "");
     }
     say("", "Asking");
     try {
-        const keytabs = [];
-        for (const each of get("keytabs").files) keytabs.push(base64(await octetsOf(each)));
-        const question = {
-            input: base64(octets), kind: message ? message.kind : get("kind").value.trim(), keytabs: keytabs, keys: get("keys").value, password: get("password").value,
-            salt: get("salt").value, show: get("show").checked,
-        };
+        const keys = await keysGiven();
         if (!await hold() || gone) throw new Error("The server is busy. Try again.");
-        const answer = await fetch("show", {
-            method: "POST", headers: { "Content-Type": "application/json" }, body: JSON.stringify(question), credentials: "omit", cache: "no-store", redirect: "error",
-        });
+        if (!message && isCapture(octets)) return await readCapture(number, octets, keys, "the octets themselves");
+        const kind = message ? message.kind : get("kind").value.trim();
+        const answer = await post("show", "application/json", JSON.stringify({ input: base64(octets), kind, ...keys }));
         if (number !== asked) return;
-        if (!answer.ok) throw new Error(answer.status + ": " + (await answer.text()).trim());
+        if (!answer.ok) throw new Error("The server refuses this: " + (await answer.text()).trim() + " (" + answer.status + ").");
         const told = await answer.json();
-        if (number === asked) present(told);
+        if (number !== asked) return;
+        if (told.capture !== undefined) return await readCapture(number, fromBase64(told.capture), keys, told.form);
+        present(told);
     } catch (error) {
         if (number !== asked) return;
         clearResult();
@@ -116,12 +137,30 @@ async function ask(message) {
 
 function clearResult() {
     shown = chosen = cursor = null;
-    get("result").hidden = get("capture").hidden = true;
+    for (const id of ["result", "capture", "card", "table-pane", "link", "progress", "stop"]) get(id).hidden = true;
     get("of-capture").hidden = !picked;
     get("of-line").textContent = picked ? picked.line : "";
-    for (const id of ["tree", "octets", "verdicts", "notes", "source", "messages"]) get(id).replaceChildren();
+    for (const id of ["tree", "octets", "verdicts", "notes", "source", "messages", "sequence", "map", "legend", "table"]) get(id).replaceChildren();
     get("where").textContent = "";
+    foldForm(false);
 }
+
+// Folds what is given to a line, once something is shown, or opens it again.
+function foldForm(folded, can) {
+    const within = get("fields").contains(document.activeElement) || document.activeElement === get("go");
+    get("fields").hidden = get("go").hidden = get("go-help").hidden = folded;
+    get("change").hidden = !(folded || can);
+    get("change").setAttribute("aria-expanded", String(!folded));
+    get("change").textContent = folded ? "Change octets and keys" : "Fold";
+    if (folded && within) (get("card").hidden ? get("change") : get("card-title")).focus({ preventScroll: true });
+}
+
+get("change").addEventListener("click", () => {
+    const folds = get("change").getAttribute("aria-expanded") === "true";
+    foldForm(folds, true);
+    if (folds) get("change").focus();
+    else get("input").focus();
+});
 
 function note(notes) {
     for (const each of notes) get("notes").append(made("li", "", each));
@@ -142,389 +181,72 @@ function linesOf(told) {
 
 function present(told) {
     clearResult();
-    if (told.bad !== undefined) return say(told.bad, "");
-    if (told.messages) return presentList(told);
+    if (told.bad !== undefined) return say(spoken(told.bad), "");
     for (const each of told.sources) each.octets = fromBase64(each.octets);
     shown = told;
     shown.lines = linesOf(told.lines);
     const size = told.sources[0].size, error = told.error;
     const name = shown.lines.length && !error ? shown.lines[0].name + ", " : "";
-    const place = error && error.offset !== null ? " at octet " + error.offset : "";
-    say(error ? error.status + place + ": " + error.text : "", name + size + " octets, " + (picked ? "of the capture" : "given as " + told.form));
-    for (const [isLetIn, text] of told.verdicts) get("verdicts").append(made("li", isLetIn ? "good" : "bad", text));
+    const place = error && error.offset !== null ? " The first error is at octet " + error.offset + "." : "";
+    say(error ? spoken(error.text) + place : "", name + size + " octets, " + (picked ? "of the capture" : "given as " + told.form));
+    presentCard(told);
+    presentTable(told.table);
     note(told.notes);
-    told.sources.forEach((each, number) => {
-        const option = made("option", "", each.title + " (" + each.size + ")");
-        option.value = number;
-        get("source").append(option);
-    });
-    get("tree-pane").hidden = !shown.lines.length;
-    get("octets-pane").hidden = told.hidden;
-    get("copy-text").disabled = !told.text;
-    get("copy-json").disabled = !told.json;
-    get("result").hidden = !shown.lines.length && told.hidden;
-    const all = shown.lines.length <= MANY;
-    for (const line of shown.lines) if (line.depth === 0) get("tree").append(itemOf(line, all ? Infinity : 3));
-    const first = get("tree").firstElementChild;
-    if (first) first.tabIndex = 0;
-    chosen = null;
-    goTo(0, error && error.offset !== null ? error.offset : 0);
-    if (error && error.offset !== null) get("where").textContent = "the first error is at octet " + error.offset;
+    presentTree(told);
+    get("link").hidden = told.secret || size > MOST_LINK;
+    foldForm(!get("result").hidden, true);
 }
 
-// The messages of a capture.
+// A link: the octets behind `#`, which no browser sends to a server, and no keys.
 
-function presentList(told) {
-    list = told;
-    const count = told.messages.length;
-    say(told.trouble || "", (count === 1 ? "1 message" : count + " messages") + " in a capture of " + told.size + " octets, given as " + told.form);
-    note(told.notes);
-    for (const message of told.messages) {
-        const item = made("li"), button = made("button", "message", message.line);
-        button.type = "button";
-        button.tabIndex = -1;
-        button.message = message;
-        if (message.why !== null) {
-            button.setAttribute("aria-disabled", "true");
-            if (message.why.startsWith("not read")) button.classList.add("bad");
-        }
-        message.button = button;
-        item.append(button);
-        get("messages").append(item);
+function linkOf() {
+    const octets = base64(shown.sources[0].octets).replace(/\+/g, "-").replace(/\//g, "_").replace(/=+$/, "");
+    const kind = (picked ? picked.kind : get("kind").value).trim();
+    return location.origin + location.pathname + "#octets=" + octets + (kind ? "&as=" + encodeURIComponent(kind) : "");
+}
+
+// What a link, or what stands behind its `#`, holds.
+function inLink(text) {
+    const found = /^(?:https?:\/\/[^\s#]+)?#octets=([A-Za-z0-9_-]+)(?:&as=([A-Za-z0-9%-]{1,64}))?$/.exec(text.trim());
+    if (!found) return null;
+    let kind = "";
+    try {
+        kind = decodeURIComponent(found[2] || "");
+    } catch (error) {
+        return null;
     }
-    get("capture").hidden = !count;
-    if (count) get("messages").querySelector("button").tabIndex = 0;
+    const plain = found[1].replace(/-/g, "+").replace(/_/g, "/");
+    return { text: plain + "=".repeat((4 - plain.length % 4) % 4), kind };
 }
 
-function stepTo(button) {
-    for (const each of get("messages").querySelectorAll("button[tabindex='0']")) each.tabIndex = -1;
-    button.tabIndex = 0;
+function followLink() {
+    const found = inLink(location.hash);
+    if (!found) return;
+    forget();
+    get("input").value = found.text;
+    get("kind").value = found.kind;
+    ask();
 }
 
-get("messages").addEventListener("click", (event) => {
-    const button = event.target.closest("button");
-    if (!button) return;
-    stepTo(button);
-    if (button.message.why === null) ask(button.message).then(() => picked === button.message && get("back").focus());
-    else get("status").textContent = "Packet " + button.message.line.split(" ")[0] + ": " + button.message.why;
-});
-get("messages").addEventListener("focusin", (event) => {
-    if (event.target.message) stepTo(event.target);
-});
-get("messages").addEventListener("keydown", (event) => {
-    if (event.ctrlKey || event.metaKey || event.altKey || !event.target.message) return;
-    const buttons = [...get("messages").querySelectorAll("button")], at = buttons.indexOf(event.target), last = buttons.length - 1;
-    const steps = { ArrowDown: at + 1, ArrowUp: at - 1, PageDown: at + 10, PageUp: at - 10, Home: 0, End: last };
-    if (!(event.key in steps)) return;
-    event.preventDefault();
-    buttons[Math.max(0, Math.min(last, steps[event.key]))].focus();
-});
-get("back").addEventListener("click", () => {
-    const told = list, message = picked;
-    asked++;
-    picked = null;
-    clearResult();
-    presentList(told);
-    message.button.classList.add("last");
-    message.button.focus();
-});
+get("link").addEventListener("click", () => copy(linkOf(), "a link, which holds the octets and no keys"));
+window.addEventListener("hashchange", followLink);
+window.addEventListener("load", () => inLink(location.hash) ? followLink() : takeGiven());
 
-// The tree.
-
-function verdict(line) {
-    if (line.value === "hidden") return "hidden";
-    if (line.name === "opened-by") return "opened";
-    if (line.name === "not-opened") return "bad";
-    if (!line.name.endsWith("-checksum")) return "";
-    if (line.value === "holds") return "good";
-    return line.value === "absent" || line.value.includes("not verified: ") ? "" : "bad";
-}
-
-function localOf(value) {
-    if (!/^\d{4}-\d\d-\d\dT\d\d:\d\d:\d\dZ$/.test(value || "")) return "";
-    const time = new Date(value);
-    if (isNaN(time.getTime()) || time.toISOString().slice(0, 19) + "Z" !== value) return "";
-    const words = { year: "numeric", month: "short", day: "numeric", hour: "2-digit", minute: "2-digit", second: "2-digit", timeZoneName: "short", hourCycle: "h23" };
-    return time.toLocaleString(undefined, words);
-}
-
-function itemOf(line, open) {
-    const item = made("li");
-    item.setAttribute("role", "treeitem");
-    item.setAttribute("aria-level", line.depth + 1);
-    item.setAttribute("aria-selected", "false");
-    item.tabIndex = -1;
-    item.line = line;
-    line.item = item;
-    const row = made("div", "row");
-    const twig = made("span", "twig", line.lines.length ? "\u25b8" : "");
-    twig.setAttribute("aria-hidden", "true");
-    row.append(twig, made("span", "name", line.name + (line.count === null ? "" : "[" + line.count + "]") + ":"));
-    if (line.value !== null) {
-        row.append(made("span", ("value " + verdict(line)).trim(), line.value));
-        const local = localOf(line.value);
-        if (local) row.append(made("span", "local", "(" + local + ")"));
+// What the server was given when it was started, if anything.
+async function takeGiven() {
+    const number = asked;
+    try {
+        const answer = await fetch("given", { credentials: "omit", cache: "no-store", redirect: "error" });
+        if (answer.status !== 200 || number !== asked) return;
+        const given = { name: decodeURIComponent(answer.headers.get("X-File-Name") || ""), octets: new Uint8Array(await answer.arrayBuffer()) };
+        if (number !== asked || file || get("input").value) return;
+        file = given;
+        nameFile();
+        await ask();
+    } catch (error) {
+        // (the server has ended: `leave` says so)
     }
-    item.append(row);
-    if (line.lines.length) {
-        item.setAttribute("aria-expanded", "false");
-        if (open > 1) unfold(item, open - 1);
-    }
-    return item;
 }
-
-function unfold(item, open) {
-    if (!item.line.lines.length) return;
-    let group = item.querySelector(":scope > ul");
-    if (!group) {
-        group = made("ul");
-        group.setAttribute("role", "group");
-        for (const line of item.line.lines) group.append(itemOf(line, open || 1));
-        item.append(group);
-    } else if (open > 1) {
-        for (const each of group.children) unfold(each, open - 1);
-    }
-    group.hidden = false;
-    item.setAttribute("aria-expanded", "true");
-    item.querySelector(".twig").textContent = "\u25be";
-}
-
-function fold(item) {
-    const group = item.querySelector(":scope > ul");
-    if (!group) return;
-    group.hidden = true;
-    item.setAttribute("aria-expanded", "false");
-    item.querySelector(".twig").textContent = "\u25b8";
-}
-
-// The item of a line, with all that it stands in open.
-function reveal(line) {
-    const around = [];
-    for (let each = line.around; each; each = each.around) around.unshift(each);
-    for (const each of around) unfold(each.item, 1);
-    return line.item;
-}
-
-// The place of a line, or of what it stands in.
-function placeOf(line) {
-    for (let each = line; each; each = each.around) if (each.place) return each.place;
-    return null;
-}
-
-function choose(line, focuses, moves) {
-    if (chosen) {
-        chosen.item.setAttribute("aria-selected", "false");
-        chosen.item.tabIndex = -1;
-    } else {
-        for (const each of get("tree").children) each.tabIndex = -1;
-    }
-    chosen = line;
-    const item = reveal(line);
-    item.setAttribute("aria-selected", "true");
-    item.tabIndex = 0;
-    if (focuses) item.focus({ preventScroll: true });
-    item.querySelector(".row").scrollIntoView({ block: "nearest", inline: "nearest" });
-    const place = placeOf(line);
-    if (place && moves) {
-        const inside = place[0] === source && place[1] >= start && place[1] < start + WINDOW;
-        if (!inside) goTo(place[0], place[1]);
-        cursor = place[2] ? place[1] : null;
-    }
-    light(null);
-    if (place && moves) showOctet(place[1]);
-    tellWhere();
-}
-
-function tellWhere() {
-    const place = chosen && placeOf(chosen);
-    if (!chosen) return;
-    const exact = place && placeOf(chosen) === chosen.place;
-    const places = (from, size) => (size ? "octets " + from + " to " + (from + size - 1) + ", " + size : "no octets, behind " + from) + " of " + shown.sources[place[0]].title;
-    get("where").textContent = chosen.name + ": " + (place ? (exact ? "" : "within ") + places(place[1], place[2]) : "no place");
-}
-
-function visible() {
-    return [...get("tree").querySelectorAll("li")].filter((item) => !item.parentElement.closest("ul[hidden]"));
-}
-
-get("tree").addEventListener("click", (event) => {
-    const item = event.target.closest("li");
-    if (!item) return;
-    choose(item.line, true, true);
-    if (event.target.closest(".twig")) item.getAttribute("aria-expanded") === "true" ? fold(item) : unfold(item, 1);
-});
-get("tree").addEventListener("dblclick", (event) => {
-    const item = event.target.closest("li");
-    if (item && !event.target.closest(".twig")) item.getAttribute("aria-expanded") === "true" ? fold(item) : unfold(item, 1);
-});
-get("tree").addEventListener("focusin", (event) => {
-    const item = event.target.closest("li");
-    if (item && item.line !== chosen && event.target === item) choose(item.line, false, true);
-});
-get("tree").addEventListener("mouseover", (event) => {
-    const item = event.target.closest("li");
-    light(item ? item.line : null);
-});
-get("tree").addEventListener("mouseleave", () => light(null));
-get("tree").addEventListener("keydown", (event) => {
-    const item = event.target.closest("li");
-    if (!item || event.ctrlKey || event.metaKey || event.altKey) return;
-    const items = visible(), at = items.indexOf(item), isOpen = item.getAttribute("aria-expanded");
-    let to = null;
-    switch (event.key) {
-        case "ArrowDown": to = items[at + 1]; break;
-        case "ArrowUp": to = items[at - 1]; break;
-        case "Home": to = items[0]; break;
-        case "End": to = items[items.length - 1]; break;
-        case "ArrowRight":
-            if (isOpen === "false") unfold(item, 1);
-            else if (isOpen === "true") to = items[at + 1];
-            break;
-        case "ArrowLeft":
-            if (isOpen === "true") fold(item);
-            else to = item.line.around ? item.line.around.item : null;
-            break;
-        case "Enter":
-        case " ":
-            if (isOpen !== null) isOpen === "true" ? fold(item) : unfold(item, 1);
-            break;
-        case "*":
-            for (const each of item.parentElement.children) unfold(each, 1);
-            break;
-        default:
-            if (event.key.length !== 1) return;
-            to = [...items.slice(at + 1), ...items.slice(0, at)].find((each) => each.line.name.toLowerCase().startsWith(event.key.toLowerCase()));
-    }
-    event.preventDefault();
-    if (to) choose(to.line, true, true);
-});
-get("open-all").addEventListener("click", () => {
-    for (const each of get("tree").children) unfold(each, Infinity);
-});
-get("close-all").addEventListener("click", () => {
-    for (const each of get("tree").querySelectorAll("li[aria-expanded=true]")) fold(each);
-    if (chosen) choose(shown.lines[0], false, true);
-});
-
-// The octets.
-
-function isMasked(octet) {
-    return shown.sources[source].masks.some(([offset, size]) => octet >= offset && octet < offset + size);
-}
-
-function goTo(number, octet) {
-    source = number;
-    get("source").value = number;
-    const size = shown.sources[source].size;
-    start = Math.max(0, Math.min(Math.floor(octet / WINDOW) * WINDOW, size));
-    if (size && start >= size) start = Math.floor((size - 1) / WINDOW) * WINDOW;
-    const { octets, masks } = shown.sources[source], end = Math.min(size, start + WINDOW);
-    const masked = new Uint8Array(WINDOW);
-    for (const [offset, length] of masks) for (let at = Math.max(offset, start); at < Math.min(offset + length, end); at++) masked[at - start] = 1;
-    const error = source === 0 && shown.error ? shown.error.offset : null;
-    const rows = document.createDocumentFragment(), wide = Math.max(4, size.toString(16).length);
-    for (let at = start; at < end; at += 16) {
-        const row = made("div", "dump"), hex = made("span", "hex"), letters = made("span", "letters");
-        row.append(made("span", "at", at.toString(16).padStart(wide, "0")), hex, letters);
-        letters.setAttribute("aria-hidden", "true");
-        for (let n = at; n < Math.min(at + 16, end); n++) {
-            const octet = octets[n], hidden = masked[n - start];
-            const pair = made("b", n === error ? "fault" : "", hidden ? "\u00b7\u00b7" : octet.toString(16).padStart(2, "0"));
-            const letter = made("b", n === error ? "fault" : "", hidden ? "\u00b7" : octet >= 32 && octet < 127 ? String.fromCharCode(octet) : ".");
-            pair.at = letter.at = n;
-            hex.append(pair);
-            letters.append(letter);
-        }
-        rows.append(row);
-    }
-    get("octets").replaceChildren(rows);
-    get("earlier").disabled = start === 0;
-    get("later").disabled = end >= size;
-    cursor = null;
-    light(null);
-    if (error !== null) showOctet(error);
-}
-
-function cellsOf(octet) {
-    const row = get("octets").children[Math.floor((octet - start) / 16)];
-    if (!row || octet < start) return [];
-    const n = (octet - start) % 16;
-    return [row.children[1].children[n], row.children[2].children[n]].filter(Boolean);
-}
-
-function showOctet(octet) {
-    const [cell] = cellsOf(octet);
-    if (cell) cell.parentElement.parentElement.scrollIntoView({ block: "nearest", inline: "nearest" });
-}
-
-function mark(line, name) {
-    const place = line && placeOf(line);
-    if (!place || place[0] !== source) return;
-    const from = Math.max(place[1], start), to = Math.min(place[1] + place[2], start + WINDOW);
-    for (let at = from; at < to; at++) for (const cell of cellsOf(at)) cell.classList.add(name);
-}
-
-// Lights up what is chosen, and a line that is pointed at with its octets.
-function light(line) {
-    for (const name of ["chosen", "lit", "cursor"]) for (const each of get("octets").querySelectorAll("b." + name)) each.classList.remove(name);
-    for (const each of get("tree").querySelectorAll(".row.lit")) each.classList.remove("lit");
-    if (!shown) return;
-    mark(chosen, "chosen");
-    if (line && line !== chosen) {
-        mark(line, "lit");
-        if (line.item) line.item.querySelector(".row").classList.add("lit");
-    }
-    if (cursor !== null && document.activeElement === get("octets")) for (const cell of cellsOf(cursor)) cell.classList.add("cursor");
-}
-
-// The line deepest in the tree whose octets these are among.
-function lineAt(octet) {
-    let best = null;
-    for (const line of shown.lines) {
-        const place = line.place;
-        if (place && place[0] === source && octet >= place[1] && octet < place[1] + place[2] && (!best || place[2] <= best.place[2])) best = line;
-    }
-    return best;
-}
-
-get("octets").addEventListener("mouseover", (event) => {
-    if (event.target.at !== undefined) light(lineAt(event.target.at));
-});
-get("octets").addEventListener("mouseleave", () => light(null));
-get("octets").addEventListener("click", (event) => {
-    if (event.target.at === undefined) return;
-    moveTo(event.target.at);
-});
-get("octets").addEventListener("focus", () => {
-    if (cursor === null) cursor = start;
-    light(null);
-});
-get("octets").addEventListener("blur", () => light(null));
-
-function moveTo(octet) {
-    const size = shown.sources[source].size;
-    if (!size) return;
-    octet = Math.max(0, Math.min(size - 1, octet));
-    if (octet < start || octet >= start + WINDOW) goTo(source, octet);
-    cursor = octet;
-    const line = lineAt(octet);
-    if (line) choose(line, false, false);
-    light(null);
-    showOctet(octet);
-    const value = isMasked(octet) ? "hidden" : shown.sources[source].octets[octet].toString(16).padStart(2, "0");
-    get("where").textContent = "octet " + octet + ", " + value + (line ? ", of " + line.name : "");
-}
-
-get("octets").addEventListener("keydown", (event) => {
-    if (event.ctrlKey || event.metaKey || event.altKey || cursor === null) return;
-    const steps = { ArrowLeft: -1, ArrowRight: 1, ArrowUp: -16, ArrowDown: 16, PageUp: -256, PageDown: 256, Home: -(cursor % 16), End: 15 - (cursor % 16) };
-    if (!(event.key in steps)) return;
-    event.preventDefault();
-    moveTo(cursor + steps[event.key]);
-});
-get("source").addEventListener("change", () => goTo(Number(get("source").value), 0));
-get("earlier").addEventListener("click", () => goTo(source, start - WINDOW));
-get("later").addEventListener("click", () => goTo(source, start + WINDOW));
 
 // Copying.
 
@@ -570,6 +292,24 @@ async function take(given) {
     }
 }
 
+// Gives files of octets to a field.
+function giveFiles(id, files) {
+    const given = new DataTransfer();
+    for (const [name, octets] of files) given.items.add(new File([octets], name));
+    get(id).files = given.files;
+}
+
+// Forgets what was given, and what was shown of it.
+function forget() {
+    asked++;
+    if (stopping) stopping.abort();
+    file = list = picked = null;
+    get("form").reset();
+    nameFile();
+    clearResult();
+    say("", "");
+}
+
 get("form").addEventListener("submit", (event) => {
     event.preventDefault();
     ask();
@@ -601,15 +341,18 @@ get("show").addEventListener("change", () => {
     if (shown || picked) ask(picked);
 });
 get("clear").addEventListener("click", () => {
-    asked++;
-    file = list = picked = null;
-    get("form").reset();
-    nameFile();
-    clearResult();
-    say("", "");
+    forget();
     get("input").focus();
 });
 window.addEventListener("pagehide", () => get("form").reset());
+document.addEventListener("paste", (event) => {
+    const text = event.clipboardData && event.clipboardData.getData("text/plain");
+    if (!text || event.target.closest("input, textarea")) return;
+    file = null;
+    nameFile();
+    get("input").value = text;
+    ask();
+});
 document.addEventListener("dragover", (event) => {
     event.preventDefault();
     document.body.classList.add("over");
