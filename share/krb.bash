@@ -68,7 +68,7 @@ _krb_arguments() {
             "
             ;;
         web)
-            _krb_or nothing "
+            _krb_or files "
                 --help --port -h
             "
             ;;

@@ -41,6 +41,7 @@ complete -c krb -n '__fish_seen_subcommand_from capture' -l seconds -x -d 'stop 
 complete -c krb -n __fish_use_subcommand -a web -d 'a page on 127.0.0.1 that shows octets in the browser'
 complete -c krb -n '__fish_seen_subcommand_from web' -s h -l help -d 'tell all arguments'
 complete -c krb -n '__fish_seen_subcommand_from web' -l port -x -d 'the port, 1 to 65535; without it one that is free'
+complete -c krb -n '__fish_seen_subcommand_from web' -F
 complete -c krb -n __fish_use_subcommand -a kinit -d 'get a first ticket, by a password or a keytab'
 complete -c krb -n '__fish_seen_subcommand_from kinit' -s h -l help -d 'tell all arguments'
 complete -c krb -n '__fish_seen_subcommand_from kinit' -s c -r -F -d 'the file of tickets; else $KRB5CCNAME or /tmp/krb5cc_UID'

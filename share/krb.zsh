@@ -93,7 +93,8 @@ _krb() {
             _arguments -S \
                 '(-h --help)-h[tell all arguments]' \
                 '(-h --help)--help[tell all arguments]' \
-                '(--port)--port[the port, 1 to 65535; without it one that is free]:N: '
+                '(--port)--port[the port, 1 to 65535; without it one that is free]:N: ' \
+                '1:FILE:_files'
             ;;
         kinit)
             _arguments -S \
