@@ -33,6 +33,7 @@ class Browser:
     """What both can do. `ask` sends a command of WebDriver, by its path in Chromium and its name in Firefox."""
 
     name = ""
+    others = ()  # addresses of further servers of pages, to which its requests may go
 
     def go(self, url):
         self.ask("POST", "/url", "WebDriver:Navigate", {"url": url})
