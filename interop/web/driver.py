@@ -329,7 +329,7 @@ class Firefox(Browser):
         return found
 
     def urls(self):
-        return [each["request"]["url"] for each in self._told("network.beforeRequestSent") if not each["request"]["url"].startswith(("about:", "blob:"))]
+        return [each["request"]["url"] for each in self._told("network.beforeRequestSent") if not each["request"]["url"].startswith(("about:", "blob:", "data:"))]  # which go nowhere
 
     def complaints(self):
         return [each["text"] for each in self._told("log.entryAdded") if each["level"] in ("error", "warn")]
