@@ -33,6 +33,7 @@ class Browser:
     """What both can do. `ask` sends a command of WebDriver, by its path in Chromium and its name in Firefox."""
 
     name = ""
+    others = ()  # addresses of further servers of pages, to which its requests may go
 
     def go(self, url):
         self.ask("POST", "/url", "WebDriver:Navigate", {"url": url})
@@ -328,7 +329,7 @@ class Firefox(Browser):
         return found
 
     def urls(self):
-        return [each["request"]["url"] for each in self._told("network.beforeRequestSent") if not each["request"]["url"].startswith(("about:", "blob:"))]
+        return [each["request"]["url"] for each in self._told("network.beforeRequestSent") if not each["request"]["url"].startswith(("about:", "blob:", "data:"))]  # which go nowhere
 
     def complaints(self):
         return [each["text"] for each in self._told("log.entryAdded") if each["level"] in ("error", "warn")]

@@ -233,6 +233,7 @@ def try_files(browser, site, folder):
     with open(named, "wb") as file:
         file.write(ERROR)
     other = Site(place, python, library, named)
+    browser.others = (*browser.others, other.address)
     try:
         expect(other.ask("GET", "given")[2] == ERROR and other.ask("GET", "given", token="A" * 43)[0] == 404, "the file that is given to the server")
         browser.go(other.address)

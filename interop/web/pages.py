@@ -466,7 +466,7 @@ def try_large(browser):
 def try_log(browser, site):
     """The requests of all pages, and what the browser complains of."""
     urls = browser.urls()
-    elsewhere = [each for each in urls if not each.startswith(site.address)]
+    elsewhere = [each for each in urls if not each.startswith((site.address, *browser.others))]
     expect(len(urls) > 100 and elsewhere == [], "requests elsewhere: %s" % elsewhere[:5])
     complaints = browser.complaints()
     expect(complaints == [], "the browser complains: %s" % complaints[:3])
