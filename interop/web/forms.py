@@ -21,7 +21,7 @@ def outcome(text):
 
 
 def try_salts():
-    """The salts of a password that octets tell: those under which a program in Python made keys of it (crates/test_rows, table `salts`)."""
+    """The salts of a password that octets tell: those under which a program in Python made keys of it (tests/keys.rows, `salts`)."""
     from krb._pages import page_of
     from given import salted
 

@@ -1,11 +1,10 @@
 """The rows of tests/*.rows, octets with what decoders in Python made of them that share no code with the library, and texts to mislead."""
 
-import os
 import re
 
 from der import element, integer, name, sequence, text
 from keytabs import keytab_of
-from tables import TOP, asked, lines_of
+from tables import asked
 
 
 def pages():
@@ -36,11 +35,11 @@ def buffers():
 
 
 def salted():
-    """The rows of crates/test_rows, table `salts`: the octets of a message, and the salts that are expected of it."""
-    with open(os.path.join(TOP, "crates", "test_rows", "stdout"), encoding="utf-8") as file:
-        expected = [re.findall(r" ([^;]+);", line) for line in file if line.startswith("salts:")]
-    rows = [bytes.fromhex(line) for _, line in lines_of("test_rows", "salts") if not line.startswith("#")]
-    return list(zip(rows, expected, strict=True))
+    """The rows of tests/keys.rows, `salts`: the octets of a message, and the salts under which a password opens its ticket."""
+    for row in asked("keys"):
+        if row.columns[0] == "salts":
+            expected = [re.search("salt (.*)\"$", line) for line in row.expected]
+            yield bytes.fromhex(row.columns[2]), [it[1] for it in expected if it]
 
 
 # Texts to mislead.
