@@ -241,8 +241,8 @@ const LEGS: [Leg; 19] = [
     },
 ];
 
-/// The context of the client, which the service lets in.
-fn let_in(alloc: Global) -> Result<Context, Fail> {
+/// The context of the client, if the service lets it in.
+fn let_in(alloc: Global) -> Result<Option<Context>, Fail> {
     let keytab = hex::decode(alloc, KEYTAB)?;
     let keys = keys_of_keytab(alloc, &KeytabView::new(&keytab)?)?;
     let token = hex::decode(alloc, TOKEN)?;
@@ -271,10 +271,10 @@ fn let_in(alloc: Global) -> Result<Context, Fail> {
     drop(cache);
     drop(terms);
     match answer {
-        Ok(context) => Ok(context),
+        Ok(context) => Ok(Some(context)),
         Err(refusal) => {
             drop(refusal);
-            Err(Fail)
+            Ok(None)
         }
     }
 }
@@ -292,8 +292,12 @@ fn is_as_expected(alloc: Global, context: &Context, leg: &Leg) -> Result<bool, F
 #[test]
 fn third_legs(rt: HostRuntime) -> Result<(), Fail> {
     let context = let_in(rt.alloc())?;
-    for leg in &LEGS {
-        assert!(rt; is_as_expected(rt.alloc(), &context, leg)?, "{}", leg.name);
+    assert!(rt; context.is_some());
+    if let Some(context) = &context {
+        for leg in &LEGS {
+            assert!(rt; is_as_expected(rt.alloc(), context, leg)?, "{}", leg.name);
+        }
     }
+    drop(context);
     Ok(())
 }
