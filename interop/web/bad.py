@@ -19,7 +19,7 @@ HEADERS = {
     "Cross-Origin-Resource-Policy": "same-origin",
     "Cross-Origin-Opener-Policy": "same-origin",
 }
-POLICY = ["default-src 'none'", "script-src 'self'", "style-src 'self'", "connect-src 'self'", "form-action 'none'", "base-uri 'none'"]
+POLICY = ["default-src 'none'", "script-src 'self'", "style-src 'self'", "img-src data:", "connect-src 'self'", "form-action 'none'", "base-uri 'none'"]
 POLICY += ["frame-ancestors 'none'"]
 ERROR = error_with(b"HOME.TEST")
 OCTETS = "application/octet-stream"
@@ -35,7 +35,7 @@ def is_good(answer):
 
 
 def try_headers(site):
-    kinds = {"": "text/html", "page.js": "text/javascript", "card.js": "text/javascript", "page.css": "text/css", "icon.svg": "image/svg+xml", "show": "application/json", "none": "text/plain"}
+    kinds = {"": "text/html", "page.js": "text/javascript", "card.js": "text/javascript", "page.css": "text/css", "show": "application/json", "none": "text/plain"}
     for name, kind in kinds.items():
         method = "POST" if name == "show" else "GET"
         status, headers, _ = site.ask(method, name, body=GOOD if name == "show" else None)
@@ -63,6 +63,7 @@ def try_requests(site):
         ("a path upwards", 404, dict(method="GET", path=at + "../page.html")),
         ("a path upwards, encoded", 404, dict(method="GET", path=at + "%2e%2e/web.py")),
         ("a file that is not served", 404, dict(method="GET", name="page.html")),
+        ("an icon, which is in the page", 404, dict(method="GET", name="icon.svg")),
         ("a query", 404, dict(method="GET", name="?x=1")),
         ("an absolute address", 404, dict(method="GET", path="http://elsewhere.test" + at)),
         ("another host", 421, dict(headers={"Host": "elsewhere.test:%d" % site.port})),

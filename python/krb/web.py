@@ -56,12 +56,11 @@ FILES = {
     "page.js": ("page.js", "text/javascript; charset=utf-8"),
     **{name: (name, "text/javascript; charset=utf-8") for name in ("card.js", "tree.js", "capture.js", "examples.js")},
     "page.css": ("page.css", "text/css; charset=utf-8"),
-    "icon.svg": ("icon.svg", "image/svg+xml"),
 }
 ALIVE, GIVEN = "alive", "given"
 MOST_FILE = 3 << 20  # octets of a file that is no capture, as the page takes it
 POLICY = (
-    "default-src 'none'; script-src 'self'; style-src 'self'; img-src 'self'; connect-src 'self'; form-action 'none'; base-uri 'none'; frame-ancestors 'none'; "
+    "default-src 'none'; script-src 'self'; style-src 'self'; img-src data:; connect-src 'self'; form-action 'none'; base-uri 'none'; frame-ancestors 'none'; "
     "require-trusted-types-for 'script'; trusted-types 'none'"
 )
 HEADERS = {
